@@ -1,0 +1,61 @@
+-- `hash` meets its contract: a message of at most 55 bytes is one block. Assumes nothing.
+use borrow.Author.Needs.{needs}
+use borrow.Author.Tests.{lt-ltb, le-ltb}
+use lib.ListN.{length}
+use lib.Seq.{take-all}
+use Rattle.words.specs.Choice.{pick}
+use Rattle.hash.specs.Answer.{hashed}
+use Rattle.hash.proofs.OneBlock.{sha256-short}
+use Rattle.hash.proofs.hash.Statement.{statement}
+use Rattle.hash.proofs.hash.Tie as tie
+
+refused-requires : tie.Need-refused-requires
+refused-requires c κs = search needs
+
+returns : tie.Need-returns
+unfolding hashed pick
+returns c = rw (lt-ltb 55 (length (c .before .before .before .args .message .now)) (c .before .if1 .taken)) (c .refused .ensures)
+
+initial-requires : tie.Need-initial-requires
+initial-requires c κs = search needs
+
+last-block-requires : tie.Need-last-block-requires
+last-block-requires c κs = search needs
+
+block-requires : tie.Need-block-requires
+block-requires c κs = search needs
+
+digest-requires : tie.Need-digest-requires
+digest-requires c κs = search needs
+
+done-requires : tie.Need-done-requires
+done-requires c κs = search needs
+
+returns-2 : tie.Need-returns-2
+unfolding hashed pick
+returns-2 c =
+    let m = c .before .before .before .before .before .before .before .args .message .now in
+    let short = c .before .before .before .before .before .if1 .left in
+    rw (
+      le-ltb 55 (length m) short,
+      c .done .ensures,
+      c .before .digest .ensures,
+      c .before .before .block .ensures,
+      c .before .before .before .last-block .ensures,
+      c .before .before .before .before .initial .ensures,
+      take-all 55 m short,
+      sha256-short m short,
+    )
+
+pub hash-spec : {M : Type 1} → statement M
+hash-spec =
+    tie.close
+    (tie.spec
+    refused-requires
+    returns
+    initial-requires
+    last-block-requires
+    block-requires
+    digest-requires
+    done-requires
+    returns-2)

@@ -1,0 +1,73 @@
+-- `words_of` meets its contract: the loop reads the words from the front. Assumes nothing.
+use borrow.Author.Needs.{needs}
+use Prim.Native.Nat.{_+_, _-_, _*_, _≤_}
+use native.Mathlib.Omega.{arith}
+use mathlib.Core.Path.{_≡_, refl, ap, sym, _∙_}
+use mathlib.Core.List.{_++_, append-nil}
+use lib.ListN.{drop}
+use Rattle.words.specs.Table.{table}
+use Rattle.words.specs.Words.{wordAt, wordsOf}
+use Rattle.words.proofs.Table.{table-more}
+use Rattle.words.proofs.Inside.{get-inside}
+use Rattle.hash.proofs.words_of.Statement.{statement}
+use Rattle.hash.proofs.words_of.Tie as tie
+
+abbrev Inv-loop : tie.InvT-loop
+Inv-loop b m₀ i₀ m i = (i ≤ 16) × (m ≡ table (λ i. wordAt b (4 * i)) i ++ drop i m₀)
+
+abbrev μ-loop : tie.MeasureT-loop
+μ-loop b m₀ i₀ m i = 16 - i
+
+loop-holds : tie.Need-loop-holds Inv-loop μ-loop
+unfolding table
+loop-holds c = (omega arith, refl)
+
+slice-aggregate-get : tie.Need-slice-aggregate-get Inv-loop μ-loop
+slice-aggregate-get c = search needs
+
+mul-get : tie.Need-mul-get Inv-loop μ-loop
+mul-get c = search needs
+
+get-requires : tie.Need-get-requires Inv-loop μ-loop
+get-requires c κs = search needs
+
+mul-m : tie.Need-mul-m Inv-loop μ-loop
+mul-m c = search needs
+
+array-write-m : tie.Need-array-write-m Inv-loop μ-loop
+array-write-m c = search needs
+
+add-i : tie.Need-add-i Inv-loop μ-loop
+add-i c = search needs
+
+loop-less : tie.Need-loop-less Inv-loop μ-loop
+loop-less c = search needs
+
+loop-again : tie.Need-loop-again Inv-loop μ-loop
+loop-again c =
+    let head = c .before .before .before in
+    let i = head .loop .i in
+    (omega arith, rw (c .get .ensures, get-inside (head .before .args .t1) (4 * i) (omega arith), head .loop .inv .1) (table-more _ i _ (omega arith)))
+
+returns : tie.Need-returns Inv-loop μ-loop
+unfolding wordsOf
+returns c =
+    let e : c .before .loop .i ≡ 16 = omega arith in
+    rw e at (c .before .loop .inv .1) ∙ append-nil _
+
+pub words-of-spec : {M : Type 1} → statement M
+words-of-spec =
+    tie.close
+    (tie.spec
+    Inv-loop
+    μ-loop
+    loop-holds
+    slice-aggregate-get
+    mul-get
+    get-requires
+    mul-m
+    array-write-m
+    add-i
+    loop-less
+    loop-again
+    returns)

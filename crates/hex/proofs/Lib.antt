@@ -1,0 +1,2 @@
+-- The law of a buffer filled with digits.
+pub mod Filled

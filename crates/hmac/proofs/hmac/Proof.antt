@@ -1,0 +1,89 @@
+-- `hmac` meets its contract: the refusals in their order, and the four blocks. Assumes nothing.
+use borrow.Author.Needs.{needs}
+use borrow.Author.Tests.{eq-eqb, ne-eqb, lt-ltb, le-ltb}
+use mathlib.Core.Path.{ap, sym}
+use lib.ListN.{length}
+use Rattle.hash.specs.Answer.{done}
+use Rattle.words.specs.Choice.{pick}
+use Rattle.hmac.specs.Answer.{signed}
+use Rattle.hmac.proofs.FourBlocks.{four-blocks}
+use Rattle.hmac.proofs.hmac.Statement.{statement}
+use Rattle.hmac.proofs.hmac.Tie as tie
+
+refused-requires : tie.Need-refused-requires
+refused-requires c κs = search needs
+
+returns : tie.Need-returns
+unfolding signed pick
+returns c = rw (ne-eqb (length (c .before .before .before .before .args .key .now)) 32 (c .before .if1 .taken)) (c .refused .ensures)
+
+refused-requires-2 : tie.Need-refused-requires-2
+refused-requires-2 c κs = search needs
+
+returns-2 : tie.Need-returns-2
+unfolding signed pick
+returns-2 c =
+    let start = c .before .before .before .before .before in
+    rw (eq-eqb (length (start .args .key .now)) 32 (c .before .before .if1 .left), lt-ltb 55 (length (start .args .message .now)) (c .before .if2 .taken)) (c .refused2 .ensures)
+
+key-of-requires : tie.Need-key-of-requires
+key-of-requires c κs = search needs
+
+initial-requires : tie.Need-initial-requires
+initial-requires c κs = search needs
+
+chain-after-requires : tie.Need-chain-after-requires
+chain-after-requires c κs = search needs
+
+chain-after-requires-2 : tie.Need-chain-after-requires-2
+chain-after-requires-2 c κs = search needs
+
+chain-after-requires-3 : tie.Need-chain-after-requires-3
+chain-after-requires-3 c κs = search needs
+
+chain-after-requires-4 : tie.Need-chain-after-requires-4
+chain-after-requires-4 c κs = search needs
+
+digest-requires : tie.Need-digest-requires
+digest-requires c κs = search needs
+
+done-requires : tie.Need-done-requires
+done-requires c κs = search needs
+
+returns-3 : tie.Need-returns-3
+unfolding signed pick
+returns-3 c =
+    let key = c .before .before .before .before .before .before .before .before .before .before .before .before .args .key .now in
+    let message = c .before .before .before .before .before .before .before .before .before .before .before .before .args .message .now in
+    let key-32 = c .before .before .before .before .before .before .before .before .before .if1 .left in
+    let short = c .before .before .before .before .before .before .before .before .if2 .left in
+    rw (
+      eq-eqb (length key) 32 key-32,
+      le-ltb 55 (length message) short,
+      c .done .ensures,
+      c .before .digest .ensures,
+      c .before .before .chain-after4 .ensures,
+      c .before .before .before .chain-after3 .ensures,
+      c .before .before .before .before .chain-after2 .ensures,
+      c .before .before .before .before .before .chain-after .ensures,
+      c .before .before .before .before .before .before .before .key-of .ensures,
+    )
+    (ap done (sym (four-blocks key message _ _ _ _ _ key-32 short)))
+
+pub hmac-spec : {M : Type 1} → statement M
+hmac-spec =
+    tie.close
+    (tie.spec
+    refused-requires
+    returns
+    refused-requires-2
+    returns-2
+    key-of-requires
+    initial-requires
+    chain-after-requires
+    chain-after-requires-2
+    chain-after-requires-3
+    chain-after-requires-4
+    digest-requires
+    done-requires
+    returns-3)

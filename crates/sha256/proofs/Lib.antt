@@ -1,0 +1,5 @@
+-- The laws that several proofs of this crate cite.
+pub mod Bitwise
+pub mod Rotations
+pub mod Groups
+pub mod Lengths

@@ -1,0 +1,5 @@
+-- The laws of words and of buffers filled from the front, which the crates above cite.
+pub mod Spread
+pub mod Filling
+pub mod Inside
+pub mod Table

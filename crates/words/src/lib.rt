@@ -1,0 +1,62 @@
+// Words and bytes: a word is four bytes, high byte first, everywhere in this project.
+//
+// Contracts cite specs/Words.antt; specs/Table.antt is for lists that are filled place by place.
+ghost use mathlib.Core.Path.{_≡_};
+ghost use Prim.Native.Nat.{_<_};
+ghost use Rattle.words.specs.Words.{wordOf, bytesOf, wordOr0, withWord};
+
+// A byte as a word. A cast of its own, so that its bound is shown once.
+fn wide(b: u8) -> u32
+    ensures { λ r. ⌜ (r ≡ b) × (r < 256) ⌝ }
+{
+    b as u32
+}
+
+// The word of four bytes.
+pub fn word(a: u8, b: u8, c: u8, d: u8) -> u32
+    ensures { λ r. ⌜ r ≡ wordOf a b c d ⌝ }
+{
+    wide(a) * 16777216 + wide(b) * 65536 + wide(c) * 256 + wide(d)
+}
+
+// The four bytes of a word.
+pub fn bytes(w: u32) -> [u8; 4]
+    ensures { λ r. ⌜ r ≡ bytesOf w ⌝ }
+{
+    [
+        (w / 16777216) as u8,
+        (w / 65536 % 256) as u8,
+        (w / 256 % 256) as u8,
+        (w % 256) as u8,
+    ]
+}
+
+// The word at a place of a slice, or 0 where its four bytes are not all inside.
+pub fn get(s: &[u8], at: usize) -> u32
+    ensures { λ r. ⌜ r ≡ wordOr0 (now (s .entry)) at ⌝ }
+{
+    if s.len() < 4 {
+        return 0;
+    }
+    if s.len() - 4 < at {
+        return 0;
+    }
+    word(s[at], s[at + 1], s[at + 2], s[at + 3])
+}
+
+// Stores a word at a place of a slice: these four bytes and no other, and nothing where they are not all inside.
+pub fn put(s: &mut [u8], at: usize, w: u32)
+    ensures { λ _. ⌜ now (s .exit) ≡ withWord (now (s .entry)) at w ⌝ }
+{
+    if s.len() < 4 {
+        return;
+    }
+    if s.len() - 4 < at {
+        return;
+    }
+    let b = bytes(w);
+    s[at] = b[0];
+    s[at + 1] = b[1];
+    s[at + 2] = b[2];
+    s[at + 3] = b[3];
+}

@@ -1,0 +1,73 @@
+"""The implementations of the hash calls that the tests ask, and how their answers are compared.
+
+A request is a letter and its fields as bytes: H message, M key message, B chain block. Its line and
+its answer have the form that tests/shim/shim.c describes.
+"""
+
+import hashlib
+import hmac
+import subprocess
+
+from tally import Failed
+
+LONGEST_MESSAGE = 55
+
+
+def line_of(request):
+    letter, *fields = request
+    return " ".join([letter] + [field.hex() or "-" for field in fields])
+
+
+class Program:
+    """An implementation that answers request lines on its standard input."""
+
+    def __init__(self, name, command):
+        self.name = name
+        self.command = command
+
+    def ask_lines(self, lines):
+        text = "".join(line + "\n" for line in lines).encode()
+        done = subprocess.run(self.command, input=text, capture_output=True, timeout=300)
+        answers = done.stdout.decode(errors="replace").splitlines()
+        if done.returncode != 0 or len(answers) != len(lines):
+            last = (answers or ["none"])[-1]
+            said = done.stderr.decode(errors="replace").strip()
+            raise Failed(
+                f"{self.name} ended with status {done.returncode} after {len(answers)} of {len(lines)}"
+                f" answers, the last one: {last} {said}"
+            )
+        return answers
+
+    def ask(self, requests):
+        return self.ask_lines([line_of(request) for request in requests])
+
+
+class Platform:
+    """Python's own hash functions, with the refusals of the scope document."""
+
+    name = "Python"
+
+    @staticmethod
+    def answer(request):
+        letter, *fields = request
+        if letter == "M" and len(fields[0]) != 32:
+            return "6 " + "00" * 32
+        if len(fields[-1]) > LONGEST_MESSAGE:
+            return "11 " + "00" * 32
+        if letter == "M":
+            return "0 " + hmac.digest(fields[0], fields[1], "sha256").hex()
+        return "0 " + hashlib.sha256(fields[0]).hexdigest()
+
+    def ask(self, requests):
+        return [self.answer(request) for request in requests]
+
+
+def expect(name, lines, given, wanted):
+    """Fails at the first answer that is not the one wanted."""
+    wrong = [i for i in range(len(lines)) if given[i] != wanted[i]]
+    if wrong:
+        at = wrong[0]
+        raise Failed(
+            f"{name} answers `{given[at]}` to `{lines[at]}`, not `{wanted[at]}`"
+            f" ({len(wrong)} of {len(lines)} answers are wrong)"
+        )
