@@ -1,2 +1,3 @@
 -- The law of a buffer filled with digits.
 pub mod Filled
+pub mod OneAnswer

@@ -100,7 +100,7 @@ pub fn hmac(key: &[u8], message: &[u8]) -> Answer
     let any = sha256::initial();
     let key_ipad = chain_after(Quarter::KeyIpad, k, message, any, any);
     let inner = chain_after(Quarter::Message, k, message, key_ipad, any);
-    let key_opad = chain_after(Quarter::KeyOpad, k, message, any, inner);
+    let key_opad = chain_after(Quarter::KeyOpad, k, message, any, any);
     let outer = chain_after(Quarter::InnerDigest, k, message, key_opad, inner);
     hash::done(hash::digest(outer))
 }

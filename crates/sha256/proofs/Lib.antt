@@ -3,3 +3,5 @@ pub mod Bitwise
 pub mod Rotations
 pub mod Groups
 pub mod Lengths
+pub mod StepOne
+pub mod OneAnswer

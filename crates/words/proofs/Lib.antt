@@ -1,4 +1,6 @@
 -- The laws of words and of buffers filled from the front, which the crates above cite.
+pub mod OneAnswer
+pub mod Unique
 pub mod Spread
 pub mod Filling
 pub mod Inside

@@ -56,6 +56,7 @@ returns-3 c =
     let key = c .before .before .before .before .before .before .before .before .before .before .before .before .args .key .now in
     let message = c .before .before .before .before .before .before .before .before .before .before .before .before .args .message .now in
     let key-32 = c .before .before .before .before .before .before .before .before .before .if1 .left in
+    let any = c .before .before .before .before .before .before .initial .result in
     let short = c .before .before .before .before .before .before .before .before .if2 .left in
     rw (
       eq-eqb (length key) 32 key-32,
@@ -68,7 +69,7 @@ returns-3 c =
       c .before .before .before .before .before .chain-after .ensures,
       c .before .before .before .before .before .before .before .key-of .ensures,
     )
-    (ap done (sym (four-blocks key message _ _ _ _ _ key-32 short)))
+    (ap done (sym (four-blocks key message any any any any any key-32 short)))
 
 pub hmac-spec : {M : Type 1} → statement M
 hmac-spec =
