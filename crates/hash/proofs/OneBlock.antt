@@ -1,18 +1,18 @@
 -- Messages of at most 55 bytes, alone or after one whole block: their padding is the last block, so that SHA-256 of them is
 -- one block, or two. Assumes nothing.
-use mathlib.Core.Path.{_≡_, refl, ap, sym, _∙_}
-use mathlib.Core.List.{List, [], _∷_, _++_, append-assoc, append-nil}
-use Prim.Native.Nat.{ℕ, zero, suc, _+_, _-_, _*_, _/_, _%_, _^_, _≤_, _<_}
+use mathlib.Core.Path.{_≡_, refl, sym, _∙_}
+use mathlib.Core.List.{List, _∷_, _++_, append-assoc, append-nil}
+use Prim.Native.Nat.{ℕ, suc, _+_, _-_, _*_, _/_, _%_, _^_, _≤_, _<_}
 use native.Mathlib.Nat.{zero-add}
 use native.Mathlib.Omega.{arith}
-use lib.ListN.{length, drop, set, replicate, length-append, length-replicate, replicate-append-replicate}
+use lib.ListN.{length, set, replicate, length-append, length-replicate, replicate-append-replicate}
 use lib.Seq.{set-at, drop-at}
 use Rattle.words.specs.Words.{bytesOf, bytesOfAll, wordsOf, putWord}
 use Rattle.words.proofs.Filling.{word-more}
 use Rattle.words.proofs.Inside.{words-front}
 use Rattle.sha256.specs.Constants.{H⁰}
 use Rattle.sha256.specs.Block.{block}
-use Rattle.hash.specs.Padding.{pad, lastBlock, lengthBlock}
+use Rattle.hash.specs.Padding.{pad, lastBlock}
 use Rattle.hash.specs.Sha256.{blocks, sha256}
 
 pub length-last : (before : ℕ) (m : List ℕ) → length m ≤ 55 → length (lastBlock before m) ≡ 64
@@ -39,7 +39,9 @@ pub sha256-short : (m : List ℕ) → length m ≤ 55 → sha256 m ≡ bytesOfAl
 unfolding sha256 blocks
 sha256-short m h = rw (pad-short m h, length-last 0 m h)
 
-pub sha256-after : (a m : List ℕ) → length a ≡ 64 → length m ≤ 55 → sha256 (a ++ m) ≡ bytesOfAll (block (block H⁰ (wordsOf 16 a)) (wordsOf 16 (lastBlock 64 m)))
+pub sha256-after :
+    (a m : List ℕ) → length a ≡ 64 → length m ≤ 55 →
+    sha256 (a ++ m) ≡ bytesOfAll (block (block H⁰ (wordsOf 16 a)) (wordsOf 16 (lastBlock 64 m)))
 unfolding sha256 blocks
 sha256-after a m e h =
     rw (pad-after a m e h, length-append a (lastBlock 64 m), e, length-last 64 m h, words-front 16 a (lastBlock 64 m) (omega arith), drop-at a (lastBlock 64 m) 64 e)
@@ -67,6 +69,8 @@ marked-last before m b h =
     let room : 59 - length m ≡ 55 - length m + 4 = omega arith in
     rw (high, low, room, ← replicate-append-replicate {A = ℕ} (55 - length m) 4 0) (simp append-assoc)
 
-pub last-block : (before : ℕ) (m : List ℕ) → before < 256 → length m ≤ 55 → putWord (set (m ++ replicate (64 - length m) 0) (length m) 0x80) 60 (8 * (before + length m)) ≡ lastBlock before m
+pub last-block :
+    (before : ℕ) (m : List ℕ) → before < 256 → length m ≤ 55 →
+    putWord (set (m ++ replicate (64 - length m) 0) (length m) 0x80) 60 (8 * (before + length m)) ≡ lastBlock before m
 last-block before m b h =
     rw (mark m h, word-more (marked m) (replicate 64 0) 60 (8 * (before + length m)) (length-marked m h) (omega arith), append-nil (marked m ++ bytesOf (8 * (before + length m)))) (marked-last before m b h)

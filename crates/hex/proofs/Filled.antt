@@ -9,7 +9,10 @@ use Rattle.words.proofs.Filling.{fill-more}
 use Rattle.hex.specs.Hex.{digitOf, digitsOf, digitsOfAll}
 
 -- one byte more
-pub digits-more : (bytes z : List ℕ) (i : ℕ) → i < length bytes → 2 * i + 2 ≤ length z → set (set (digitsOfAll (take i bytes) ++ drop (2 * i) z) (2 * i) (digitOf (getD bytes i 0 / 16))) (2 * i + 1) (digitOf (getD bytes i 0 % 16)) ≡ digitsOfAll (take (i + 1) bytes) ++ drop (2 * (i + 1)) z
+pub digits-more :
+    (bytes z : List ℕ) (i : ℕ) → i < length bytes → 2 * i + 2 ≤ length z →
+    set (set (digitsOfAll (take i bytes) ++ drop (2 * i) z) (2 * i) (digitOf (getD bytes i 0 / 16))) (2 * i + 1) (digitOf (getD bytes i 0 % 16)) ≡
+    digitsOfAll (take (i + 1) bytes) ++ drop (2 * (i + 1)) z
 digits-more bytes z i hb hz =
     let x = digitsOfAll (take i bytes) in
     let x₁ = x ++ (digitOf (getD bytes i 0 / 16) ∷ []) in

@@ -11,7 +11,6 @@ use Rattle.words.proofs.Spread.{length-spread}
 use Rattle.sha256.specs.Constants.{H⁰}
 use Rattle.sha256.specs.Block.{block}
 use Rattle.sha256.proofs.Lengths.{length-block}
-use Rattle.hash.specs.Padding.{lastBlock}
 use Rattle.hash.specs.Sha256.{sha256}
 use Rattle.hash.proofs.OneBlock.{sha256-after}
 use Rattle.hmac.specs.declared.Quarter.the-variants.{KeyIpad, Message, KeyOpad, InnerDigest}
@@ -20,12 +19,17 @@ use Rattle.hmac.specs.Quarters.{keyBlock, textBlock, chainAfter}
 use Rattle.hmac.proofs.KeyBlock.{length-xored}
 
 -- the hash of a key's block and a text is two blocks
-two-blocks : (pad : ℕ) (key text : List ℕ) → length key ≡ 32 → length text ≤ 55 → sha256 (xorEach pad (K₀ key) ++ text) ≡ bytesOfAll (block (block H⁰ (keyBlock pad key)) (textBlock text))
+two-blocks :
+    (pad : ℕ) (key text : List ℕ) → length key ≡ 32 → length text ≤ 55 →
+    sha256 (xorEach pad (K₀ key) ++ text) ≡ bytesOfAll (block (block H⁰ (keyBlock pad key)) (textBlock text))
 two-blocks pad key text k t = rw (take-all 55 text t) (sha256-after (xorEach pad (K₀ key)) text (length-xored pad key k) t)
 
 length-digest : (H M : List ℕ) → length (bytesOfAll (block H M)) ≤ 55
 length-digest H M = omega (arith, length-spread bytesOf 4 (λ w. refl) (block H M), length-block H M)
 
-pub four-blocks : (key message a b c d e : List ℕ) → length key ≡ 32 → length message ≤ 55 → HMAC key message ≡ bytesOfAll (chainAfter InnerDigest key message (chainAfter KeyOpad key message a b) (chainAfter Message key message (chainAfter KeyIpad key message c d) e))
+pub four-blocks :
+    (key message a b c d e : List ℕ) → length key ≡ 32 → length message ≤ 55 →
+    HMAC key message ≡
+    bytesOfAll (chainAfter InnerDigest key message (chainAfter KeyOpad key message a b) (chainAfter Message key message (chainAfter KeyIpad key message c d) e))
 unfolding HMAC chainAfter
 four-blocks key message a b c d e k m = rw (two-blocks ipad key message k m) (two-blocks opad key _ k (length-digest _ _))

@@ -1,6 +1,6 @@
 -- A key xored with a pad, byte by byte: the block that the code fills is the standard's. Assumes nothing.
-use mathlib.Core.Path.{_≡_, refl, ap, sym, _∙_}
-use mathlib.Core.List.{List, [], _∷_, _++_, map, map-append}
+use mathlib.Core.Path.{_≡_, refl, sym, _∙_}
+use mathlib.Core.List.{List, [], _∷_, _++_, map-append}
 use Prim.Native.Nat.{ℕ, zero, suc, _+_, _-_, _<_}
 use native.Mathlib.Numerals.{add-one}
 use native.Mathlib.Omega.{arith}
@@ -11,7 +11,9 @@ use Rattle.words.proofs.Filling.{fill-more}
 use Rattle.hmac.specs.Hmac.{K₀, xorEach}
 
 -- the next byte of the key
-pub xor-more : (pad : ℕ) (key z : List ℕ) (i : ℕ) → i < length key → i < length z → set (xorEach pad (take i key) ++ drop i z) i (bitXor (getD key i 0) pad) ≡ xorEach pad (take (i + 1) key) ++ drop (i + 1) z
+pub xor-more :
+    (pad : ℕ) (key z : List ℕ) (i : ℕ) → i < length key → i < length z →
+    set (xorEach pad (take i key) ++ drop i z) i (bitXor (getD key i 0) pad) ≡ xorEach pad (take (i + 1) key) ++ drop (i + 1) z
 xor-more pad key z i hk hz =
     let filled : length (xorEach pad (take i key)) ≡ i = length-map (take i key) _ ∙ length-take-le i key (omega arith) in
     rw (add-one i, take-suc key i 0 hk, map-append (λ b. bitXor b pad) (take i key) (getD key i 0 ∷ [])) (fill-more (xorEach pad (take i key)) z i (suc i) (bitXor (getD key i 0) pad) filled (sym (add-one i)) hz)

@@ -1,8 +1,8 @@
 -- Rotations compose by adding their places, and a rotation of an xor is the xor of the rotations: a rotation exchanges the
 -- high and the low part of a word. Assumes nothing.
 use mathlib.Core.Path.{_≡_, ap, sym, subst, _∙_}
-use Prim.Native.Nat.{ℕ, zero, suc, _+_, _-_, _*_, _/_, _%_, _^_, _≤_, _<_}
-use native.Mathlib.Nat.{add-mul, mul-assoc, mul-comm, add-comm, add-assoc, mod-lt, add-mul-mod-self-right}
+use Prim.Native.Nat.{ℕ, _+_, _-_, _*_, _/_, _%_, _^_, _≤_, _<_}
+use native.Mathlib.Nat.{add-mul, mul-assoc, add-comm, add-assoc, mod-lt}
 use native.Mathlib.Omega.{arith}
 use lib.Pow.{pow-pos, pow-add, split, high, low, shl-lt, shr-lt, shr-shr}
 use lib.Arith.{digits-lt}
@@ -53,7 +53,9 @@ nested-lt s t hq hr = rw (add-comm t s, pow-add 2 s t) (digits-lt hq hr)
 
 module _ (i j p : ℕ) where
   -- of the three parts of a word, of p, j and i bits from the top, each rotation moves one
-  turn-turn-parts : (a b c : ℕ) → a < 2 ^ p → b < 2 ^ j → c < 2 ^ i → turn (p + i) j (turn (j + p) i ((a * 2 ^ j + b) * 2 ^ i + c)) ≡ turn p (i + j) ((a * 2 ^ j + b) * 2 ^ i + c)
+  turn-turn-parts :
+      (a b c : ℕ) → a < 2 ^ p → b < 2 ^ j → c < 2 ^ i →
+      turn (p + i) j (turn (j + p) i ((a * 2 ^ j + b) * 2 ^ i + c)) ≡ turn p (i + j) ((a * 2 ^ j + b) * 2 ^ i + c)
   turn-turn-parts a b c ha hb hc =
       ap (turn (p + i) j) (turn-parts (j + p) i (a * 2 ^ j + b) c (nested-lt p j ha hb) hc ∙ sym (nested p j c a b))
       ∙ turn-parts (p + i) j (c * 2 ^ p + a) b (nested-lt i p hc ha) hb
@@ -96,7 +98,9 @@ ROTR-ROTR i j x h hx =
     ∙ sym (as-turn (32 - (i + j)) (i + j) x p)
 
 -- the code's form of Σ0 and Σ1: one rotation of the whole, by the places that the three rotations share
-pub shared-rotation : (i j k x : ℕ) → j + i ≤ 32 → k + i ≤ 32 → x < 2 ^ 32 → ROTR i (bitXor (bitXor x (ROTR j x)) (ROTR k x)) ≡ bitXor (bitXor (ROTR i x) (ROTR (j + i) x)) (ROTR (k + i) x)
+pub shared-rotation :
+    (i j k x : ℕ) → j + i ≤ 32 → k + i ≤ 32 → x < 2 ^ 32 →
+    ROTR i (bitXor (bitXor x (ROTR j x)) (ROTR k x)) ≡ bitXor (bitXor (ROTR i x) (ROTR (j + i) x)) (ROTR (k + i) x)
 shared-rotation i j k x hj hk hx =
     let rj : ROTR j x < 2 ^ 32 = ROTR-lt j x (omega arith) hx in
     let rk : ROTR k x < 2 ^ 32 = ROTR-lt k x (omega arith) hx in

@@ -1,6 +1,6 @@
 -- The message schedule by the two equations of FIPS 180-4, 6.2.2, step 1: Wₜ = Mₜ for t up to 15, and from 16 on Wₜ is made of
 -- four words before it. A word that is put in its place stays. Assumes nothing.
-use mathlib.Core.Path.{_≡_, refl, sym, _∙_}
+use mathlib.Core.Path.{_≡_, refl, _∙_}
 use mathlib.Core.List.{List, _++_}
 use Prim.Native.Nat.{ℕ, zero, suc, _+_, _-_, _≤_, _<_}
 use native.Mathlib.Nat.{add-zero, add-suc}

@@ -1,5 +1,5 @@
 -- FIPS 180-4, sections 2.2.2, 3.2 and 4.1.2: the operations on words of 32 bits and the six functions of SHA-256. Assumes nothing.
-use Prim.Native.Nat.{ℕ, _+_, _-_, _*_, _/_, _%_, _^_}
+use Prim.Native.Nat.{ℕ, _-_, _*_, _/_, _%_, _^_}
 use lib.Bits.{bitAnd, bitOr, bitXor}
 
 -- 2.2.2: the complement of a word

@@ -6,7 +6,7 @@ mod constants;
 mod functions;
 
 ghost use mathlib.Core.Path.{_≡_};
-ghost use Prim.Native.Nat.{_+_, _*_, _≤_, _<_, _%_, _^_};
+ghost use Prim.Native.Nat.{_+_, _≤_, _<_};
 ghost use mathlib.Core.List.{_++_};
 ghost use lib.ListN.{getD, replicate};
 ghost use Rattle.sha256.specs.Constants.{K, H⁰};

@@ -1,6 +1,6 @@
 -- A buffer filled from the front: what is filled, then the buffer as it was. Storing at the seam makes the filled part
 -- longer, by a byte, by an element of a list that is copied, or by a word. Assumes nothing.
-use mathlib.Core.Path.{_≡_, refl, ap, sym, _∙_}
+use mathlib.Core.Path.{_≡_, refl, sym, _∙_}
 use mathlib.Core.List.{List, [], _∷_, _++_, append-assoc}
 use Prim.Native.Nat.{ℕ, zero, suc, _+_, _-_, _*_, _/_, _%_, _≤_, _<_}
 use native.Mathlib.Nat.{sub-zero, zero-sub, suc-sub-suc}
@@ -16,7 +16,9 @@ pub fill-more : (x z : List ℕ) (i j a : ℕ) → length x ≡ i → j ≡ i + 
 fill-more x z i j a e k h = rw (drop-cons z i 0, k, add-one i) (set-at x _ _ a i e ∙ sym (append-snoc x a (drop (suc i) z)))
 
 -- the next element of a list that is copied
-pub copy-more : (from z : List ℕ) (i : ℕ) → i < length from → i < length z → set (take i from ++ drop i z) i (getD from i 0) ≡ take (i + 1) from ++ drop (i + 1) z
+pub copy-more :
+    (from z : List ℕ) (i : ℕ) → i < length from → i < length z →
+    set (take i from ++ drop i z) i (getD from i 0) ≡ take (i + 1) from ++ drop (i + 1) z
 copy-more from z i hf hz =
     rw (add-one i, take-suc from i 0 hf) (fill-more (take i from) z i (suc i) _ (length-take-le i from (omega arith)) (sym (add-one i)) hz)
 
@@ -42,7 +44,9 @@ word-more x z i w e h =
     (simp append-assoc)
 
 -- the next of several words
-pub words-more : (h z : List ℕ) (i : ℕ) → i < length h → 4 * i + 4 ≤ length z → putWord (bytesOfAll (take i h) ++ drop (4 * i) z) (4 * i) (getD h i 0) ≡ bytesOfAll (take (i + 1) h) ++ drop (4 * (i + 1)) z
+pub words-more :
+    (h z : List ℕ) (i : ℕ) → i < length h → 4 * i + 4 ≤ length z →
+    putWord (bytesOfAll (take i h) ++ drop (4 * i) z) (4 * i) (getD h i 0) ≡ bytesOfAll (take (i + 1) h) ++ drop (4 * (i + 1)) z
 words-more h z i hh hz =
     let place : 4 * (i + 1) ≡ 4 * i + 4 = omega arith in
     rw (place, spread-more bytesOf h i hh) (word-more (bytesOfAll (take i h)) z (4 * i) (getD h i 0) (length-spread-take bytesOf 4 (λ w. refl) h i (omega arith)) hz)

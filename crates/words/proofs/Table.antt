@@ -2,13 +2,10 @@
 -- Assumes nothing.
 use mathlib.Core.Path.{_≡_, refl, ap, sym, _∙_}
 use mathlib.Core.List.{List, [], _∷_, _++_, append-nil}
-use Prim.Native.Nat.{ℕ, zero, suc, _+_, _≤_, _<_}
-use native.Mathlib.Nat.{not-suc-le-zero, le-of-suc-le-suc, eq-or-lt-of-le}
+use Prim.Native.Nat.{ℕ, zero, suc, _+_, _<_}
 use native.Mathlib.Numerals.{add-one}
 use native.Mathlib.Omega.{arith}
-use lib.ListN.{length, getD, drop, set, length-append, List·getD-append, drop-of-length-le}
-use lib.Seq.{getD-at}
-use mathlib.Core.Logic.{⊎-elim}
+use lib.ListN.{length, drop, set, length-append, drop-of-length-le}
 use Rattle.words.specs.Table.{table}
 use Rattle.words.proofs.Filling.{fill-more}
 
@@ -16,15 +13,6 @@ pub length-table : (f : ℕ → ℕ) (n : ℕ) → length (table f n) ≡ n
 unfolding table
 length-table f zero = refl
 length-table f (suc n) = length-append (table f n) (f n ∷ []) ∙ ap (λ (k : ℕ). k + 1) (length-table f n) ∙ add-one n
-
-pub getD-table : (f : ℕ → ℕ) (n i : ℕ) → i < n → getD (table f n) i 0 ≡ f i
-unfolding table
-getD-table f zero i h = absurd (not-suc-le-zero h)
-getD-table f (suc n) i h =
-    ⊎-elim
-    (λ e. rw e (getD-at (table f n) (f n) [] 0 n (length-table f n)))
-    (λ l. List·getD-append (table f n) (f n ∷ []) 0 i (rw (length-table f n) l) ∙ getD-table f n i l)
-    (eq-or-lt-of-le (le-of-suc-le-suc h))
 
 -- the next place filled
 pub table-more : (f : ℕ → ℕ) (i : ℕ) (x : List ℕ) → i < length x → set (table f i ++ drop i x) i (f i) ≡ table f (i + 1) ++ drop (i + 1) x

@@ -1,6 +1,6 @@
 -- `all_rounds` meets its contract: after t rounds the working variables are those of the first t rounds. Assumes nothing.
 use borrow.Author.Needs.{needs}
-use Prim.Native.Nat.{_+_, _-_, _%_, _≤_}
+use Prim.Native.Nat.{_-_, _%_, _≤_}
 use mathlib.Core.Path.{_≡_, refl, ap, _∙_}
 use native.Mathlib.Omega.{arith}
 use Rattle.sha256.specs.Constants.{K}

@@ -52,7 +52,25 @@ round-at-requires-8 c κs = search needs
 
 returns : tie.Need-returns
 unfolding rounds
-returns c = rw (add-zero (c .before .before .before .before .before .before .before .before .args .t), c .round-at8 .ensures, c .before .round-at7 .ensures, c .before .before .round-at6 .ensures, c .before .before .before .round-at5 .ensures, c .before .before .before .before .round-at4 .ensures, c .before .before .before .before .before .round-at3 .ensures, c .before .before .before .before .before .before .round-at2 .ensures, c .before .before .before .before .before .before .before .round-at .ensures)
+returns c =
+    let c₇ = c .before in
+    let c₆ = c₇ .before in
+    let c₅ = c₆ .before in
+    let c₄ = c₅ .before in
+    let c₃ = c₄ .before in
+    let c₂ = c₃ .before in
+    let c₁ = c₂ .before in
+    rw (
+      add-zero (c₁ .before .args .t),
+      c .round-at8 .ensures,
+      c₇ .round-at7 .ensures,
+      c₆ .round-at6 .ensures,
+      c₅ .round-at5 .ensures,
+      c₄ .round-at4 .ensures,
+      c₃ .round-at3 .ensures,
+      c₂ .round-at2 .ensures,
+      c₁ .round-at .ensures,
+    )
 
 pub eight-rounds-spec : {M : Type 1} → statement M
 eight-rounds-spec =

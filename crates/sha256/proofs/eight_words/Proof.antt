@@ -52,7 +52,25 @@ next-word-requires-8 c κs = search needs
 
 returns : tie.Need-returns
 unfolding extended
-returns c = rw (add-zero (c .before .before .before .before .before .before .before .before .before .before .before .before .before .before .before .before .args .t), c .next-word8 .ensures, c .before .before .next-word7 .ensures, c .before .before .before .before .next-word6 .ensures, c .before .before .before .before .before .before .next-word5 .ensures, c .before .before .before .before .before .before .before .before .next-word4 .ensures, c .before .before .before .before .before .before .before .before .before .before .next-word3 .ensures, c .before .before .before .before .before .before .before .before .before .before .before .before .next-word2 .ensures, c .before .before .before .before .before .before .before .before .before .before .before .before .before .before .next-word .ensures)
+returns c =
+    let c₇ = c .before .before in
+    let c₆ = c₇ .before .before in
+    let c₅ = c₆ .before .before in
+    let c₄ = c₅ .before .before in
+    let c₃ = c₄ .before .before in
+    let c₂ = c₃ .before .before in
+    let c₁ = c₂ .before .before in
+    rw (
+      add-zero (c₁ .before .before .args .t),
+      c .next-word8 .ensures,
+      c₇ .next-word7 .ensures,
+      c₆ .next-word6 .ensures,
+      c₅ .next-word5 .ensures,
+      c₄ .next-word4 .ensures,
+      c₃ .next-word3 .ensures,
+      c₂ .next-word2 .ensures,
+      c₁ .next-word .ensures,
+    )
 
 pub eight-words-spec : {M : Type 1} → statement M
 eight-words-spec =
