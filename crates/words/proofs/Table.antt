@@ -1,4 +1,4 @@
--- The laws of `table`: its length, its entries, and that a buffer filled place by place from the front becomes the table.
+-- The laws of `table`: its length, and that a buffer filled place by place from the front becomes the table.
 -- Assumes nothing.
 use mathlib.Core.Path.{_≡_, refl, ap, sym, _∙_}
 use mathlib.Core.List.{List, [], _∷_, _++_, append-nil}
