@@ -9,27 +9,9 @@ use Rattle.hash.proofs.OneBlock.{sha256-short}
 use Rattle.hash.proofs.hash.Statement.{statement}
 use Rattle.hash.proofs.hash.Tie as tie
 
-refused-requires : tie.Need-refused-requires
-refused-requires c κs = search needs
-
 returns : tie.Need-returns
 unfolding hashed pick
 returns c = rw (lt-ltb 55 (length (c .before .before .before .args .message .now)) (c .before .if1 .taken)) (c .refused .ensures)
-
-initial-requires : tie.Need-initial-requires
-initial-requires c κs = search needs
-
-last-block-requires : tie.Need-last-block-requires
-last-block-requires c κs = search needs
-
-block-requires : tie.Need-block-requires
-block-requires c κs = search needs
-
-digest-requires : tie.Need-digest-requires
-digest-requires c κs = search needs
-
-done-requires : tie.Need-done-requires
-done-requires c κs = search needs
 
 returns-2 : tie.Need-returns-2
 unfolding hashed pick
@@ -50,12 +32,5 @@ returns-2 c =
 pub hash-spec : {M : Type 1} → statement M
 hash-spec =
     tie.close
-    (tie.spec
-    refused-requires
-    returns
-    initial-requires
-    last-block-requires
-    block-requires
-    digest-requires
-    done-requires
-    returns-2)
+    (tie.spec (λ c κs. search needs) returns (λ c κs. search needs) (λ c κs. search needs) (λ c κs. search needs)
+    (λ c κs. search needs) (λ c κs. search needs) returns-2)

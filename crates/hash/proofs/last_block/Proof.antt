@@ -6,12 +6,6 @@ use lib.Seq.{take-all, length-take-le}
 use Rattle.hash.proofs.last_block.Statement.{statement}
 use Rattle.hash.proofs.last_block.Tie as tie
 
-padded-requires : tie.Need-padded-requires
-padded-requires c κs = search needs
-
-words-of-requires : tie.Need-words-of-requires
-words-of-requires c κs = search needs
-
 returns : tie.Need-returns
 returns c = rw (c .words-of .ensures, c .before .padded .ensures, take-all 55 (c .before .before .before .before .args .message .now) (c .before .before .if1 .taken))
 
@@ -21,20 +15,11 @@ slice-aggregate-padded c = sym (length-take-le 55 (c .before .before .before .ar
 padded-requires-2 : tie.Need-padded-requires-2
 padded-requires-2 c κs = rw (length-take-le 55 (c .before .before .before .args .message .now) (omega arith)) (omega arith)
 
-words-of-requires-2 : tie.Need-words-of-requires-2
-words-of-requires-2 c κs = search needs
-
 returns-2 : tie.Need-returns-2
 returns-2 c = rw (c .words-of2 .ensures, c .before .padded2 .ensures)
 
 pub last-block-spec : {M : Type 1} → statement M
 last-block-spec =
     tie.close
-    (tie.spec
-    padded-requires
-    words-of-requires
-    returns
-    slice-aggregate-padded
-    padded-requires-2
-    words-of-requires-2
-    returns-2)
+    (tie.spec (λ c κs. search needs) (λ c κs. search needs) returns slice-aggregate-padded padded-requires-2
+    (λ c κs. search needs) returns-2)

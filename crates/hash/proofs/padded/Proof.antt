@@ -8,27 +8,6 @@ use Rattle.hash.proofs.OneBlock.{last-block}
 use Rattle.hash.proofs.padded.Statement.{statement}
 use Rattle.hash.proofs.padded.Tie as tie
 
-add-bits : tie.Need-add-bits
-add-bits c = search needs
-
-mul-bits : tie.Need-mul-bits
-mul-bits c = search needs
-
-copied-requires : tie.Need-copied-requires
-copied-requires c κs = search needs
-
-array-write-b : tie.Need-array-write-b
-array-write-b c = search needs
-
-slice-aggregate-put : tie.Need-slice-aggregate-put
-slice-aggregate-put c = search needs
-
-cast-put : tie.Need-cast-put
-cast-put c = search needs
-
-put-requires : tie.Need-put-requires
-put-requires c κs = search needs
-
 returns : tie.Need-returns
 returns c =
     let start = c .before .before .before .before .before in
@@ -41,12 +20,5 @@ returns c =
 pub padded-spec : {M : Type 1} → statement M
 padded-spec =
     tie.close
-    (tie.spec
-    add-bits
-    mul-bits
-    copied-requires
-    array-write-b
-    slice-aggregate-put
-    cast-put
-    put-requires
-    returns)
+    (tie.spec (λ c. search needs) (λ c. search needs) (λ c κs. search needs) (λ c. search needs) (λ c. search needs)
+    (λ c. search needs) (λ c κs. search needs) returns)

@@ -9,12 +9,6 @@ use Rattle.hex.specs.Hex.{withDigits}
 use Rattle.hex.proofs.write.Statement.{statement}
 use Rattle.hex.proofs.write.Tie as tie
 
-fill-requires : tie.Need-fill-requires
-fill-requires c κs = search needs
-
-same-length : tie.Need-same-length
-same-length c = search needs
-
 returns : tie.Need-returns
 unfolding withDigits pick
 returns c =
@@ -28,4 +22,4 @@ returns-2 c =
     rw (lt-leb (2 * length (start .args .bytes .now)) (length (start .args .out .now)) (omega arith))
 
 pub write-spec : {M : Type 1} → statement M
-write-spec = tie.close (tie.spec fill-requires same-length returns returns-2)
+write-spec = tie.close (tie.spec (λ c κs. search needs) (λ c. search needs) returns returns-2)

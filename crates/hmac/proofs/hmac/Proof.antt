@@ -10,45 +10,15 @@ use Rattle.hmac.proofs.FourBlocks.{four-blocks}
 use Rattle.hmac.proofs.hmac.Statement.{statement}
 use Rattle.hmac.proofs.hmac.Tie as tie
 
-refused-requires : tie.Need-refused-requires
-refused-requires c κs = search needs
-
 returns : tie.Need-returns
 unfolding signed pick
 returns c = rw (ne-eqb (length (c .before .before .before .before .args .key .now)) 32 (c .before .if1 .taken)) (c .refused .ensures)
-
-refused-requires-2 : tie.Need-refused-requires-2
-refused-requires-2 c κs = search needs
 
 returns-2 : tie.Need-returns-2
 unfolding signed pick
 returns-2 c =
     let start = c .before .before .before .before .before in
     rw (eq-eqb (length (start .args .key .now)) 32 (c .before .before .if1 .left), lt-ltb 55 (length (start .args .message .now)) (c .before .if2 .taken)) (c .refused2 .ensures)
-
-key-of-requires : tie.Need-key-of-requires
-key-of-requires c κs = search needs
-
-initial-requires : tie.Need-initial-requires
-initial-requires c κs = search needs
-
-chain-after-requires : tie.Need-chain-after-requires
-chain-after-requires c κs = search needs
-
-chain-after-requires-2 : tie.Need-chain-after-requires-2
-chain-after-requires-2 c κs = search needs
-
-chain-after-requires-3 : tie.Need-chain-after-requires-3
-chain-after-requires-3 c κs = search needs
-
-chain-after-requires-4 : tie.Need-chain-after-requires-4
-chain-after-requires-4 c κs = search needs
-
-digest-requires : tie.Need-digest-requires
-digest-requires c κs = search needs
-
-done-requires : tie.Need-done-requires
-done-requires c κs = search needs
 
 returns-3 : tie.Need-returns-3
 unfolding signed pick
@@ -74,17 +44,6 @@ returns-3 c =
 pub hmac-spec : {M : Type 1} → statement M
 hmac-spec =
     tie.close
-    (tie.spec
-    refused-requires
-    returns
-    refused-requires-2
-    returns-2
-    key-of-requires
-    initial-requires
-    chain-after-requires
-    chain-after-requires-2
-    chain-after-requires-3
-    chain-after-requires-4
-    digest-requires
-    done-requires
-    returns-3)
+    (tie.spec (λ c κs. search needs) returns (λ c κs. search needs) returns-2 (λ c κs. search needs)
+    (λ c κs. search needs) (λ c κs. search needs) (λ c κs. search needs) (λ c κs. search needs) (λ c κs. search needs)
+    (λ c κs. search needs) (λ c κs. search needs) returns-3)

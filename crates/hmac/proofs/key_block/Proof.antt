@@ -18,28 +18,10 @@ Inv-loop pad key b₀ i₀ b i = (i ≤ 32) × (b ≡ xorEach pad (take i key) +
 abbrev μ-loop : tie.MeasureT-loop
 μ-loop pad key b₀ i₀ b i = 32 - i
 
-loop-holds : tie.Need-loop-holds Inv-loop μ-loop
-loop-holds c = search needs
-
-array-read-b : tie.Need-array-read-b Inv-loop μ-loop
-array-read-b c = search needs
-
-array-write-b : tie.Need-array-write-b Inv-loop μ-loop
-array-write-b c = search needs
-
-add-i : tie.Need-add-i Inv-loop μ-loop
-add-i c = search needs
-
-loop-less : tie.Need-loop-less Inv-loop μ-loop
-loop-less c = search needs
-
 loop-again : tie.Need-loop-again Inv-loop μ-loop
 loop-again c =
     let head = c .before in
     (omega arith, rw (head .loop .inv .1) (xor-more _ (head .before .args .t1) _ (head .loop .i) (omega arith) (omega arith)))
-
-words-of-requires : tie.Need-words-of-requires Inv-loop μ-loop
-words-of-requires c κs = search needs
 
 returns : tie.Need-returns Inv-loop μ-loop
 returns c =
@@ -50,14 +32,5 @@ returns c =
 pub key-block-spec : {M : Type 1} → statement M
 key-block-spec =
     tie.close
-    (tie.spec
-    Inv-loop
-    μ-loop
-    loop-holds
-    array-read-b
-    array-write-b
-    add-i
-    loop-less
-    loop-again
-    words-of-requires
-    returns)
+    (tie.spec Inv-loop μ-loop (λ c. search needs) (λ c. search needs) (λ c. search needs) (λ c. search needs)
+    (λ c. search needs) loop-again (λ c κs. search needs) returns)

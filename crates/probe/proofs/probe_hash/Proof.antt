@@ -4,11 +4,8 @@ use mathlib.Core.Path.{ap}
 use Rattle.probe.proofs.probe_hash.Statement.{statement}
 use Rattle.probe.proofs.probe_hash.Tie as tie
 
-hash-requires : tie.Need-hash-requires
-hash-requires c κs = search needs
-
 returns : tie.Need-returns
 returns c = (ap (λ a. a .number) (c .before .hash .ensures), ap (λ a. a .digest) (c .before .hash .ensures))
 
 pub probe-hash-spec : {M : Type 1} → statement M
-probe-hash-spec = tie.close (tie.spec hash-requires returns)
+probe-hash-spec = tie.close (tie.spec (λ c κs. search needs) returns)

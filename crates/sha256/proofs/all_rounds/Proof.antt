@@ -23,12 +23,6 @@ eight-rounds-requires : tie.Need-eight-rounds-requires Inv-loop μ-loop
 unfolding K
 eight-rounds-requires c κs = (omega arith, refl)
 
-add-t : tie.Need-add-t Inv-loop μ-loop
-add-t c = search needs
-
-loop-less : tie.Need-loop-less Inv-loop μ-loop
-loop-less c = search needs
-
 loop-again : tie.Need-loop-again Inv-loop μ-loop
 loop-again c =
     let head = c .before .before .before .before in
@@ -42,4 +36,5 @@ returns c =
 pub all-rounds-spec : {M : Type 1} → statement M
 all-rounds-spec =
     tie.close
-    (tie.spec Inv-loop μ-loop loop-holds eight-rounds-requires add-t loop-less loop-again returns)
+    (tie.spec Inv-loop μ-loop loop-holds eight-rounds-requires (λ c. search needs) (λ c. search needs) loop-again
+    returns)

@@ -5,51 +5,6 @@ use Rattle.sha256.specs.Block.{extended}
 use Rattle.sha256.proofs.eight_words.Statement.{statement}
 use Rattle.sha256.proofs.eight_words.Tie as tie
 
-next-word-requires : tie.Need-next-word-requires
-next-word-requires c κs = search needs
-
-add-next-word : tie.Need-add-next-word
-add-next-word c = search needs
-
-next-word-requires-2 : tie.Need-next-word-requires-2
-next-word-requires-2 c κs = search needs
-
-add-next-word-2 : tie.Need-add-next-word-2
-add-next-word-2 c = search needs
-
-next-word-requires-3 : tie.Need-next-word-requires-3
-next-word-requires-3 c κs = search needs
-
-add-next-word-3 : tie.Need-add-next-word-3
-add-next-word-3 c = search needs
-
-next-word-requires-4 : tie.Need-next-word-requires-4
-next-word-requires-4 c κs = search needs
-
-add-next-word-4 : tie.Need-add-next-word-4
-add-next-word-4 c = search needs
-
-next-word-requires-5 : tie.Need-next-word-requires-5
-next-word-requires-5 c κs = search needs
-
-add-next-word-5 : tie.Need-add-next-word-5
-add-next-word-5 c = search needs
-
-next-word-requires-6 : tie.Need-next-word-requires-6
-next-word-requires-6 c κs = search needs
-
-add-next-word-6 : tie.Need-add-next-word-6
-add-next-word-6 c = search needs
-
-next-word-requires-7 : tie.Need-next-word-requires-7
-next-word-requires-7 c κs = search needs
-
-add-next-word-7 : tie.Need-add-next-word-7
-add-next-word-7 c = search needs
-
-next-word-requires-8 : tie.Need-next-word-requires-8
-next-word-requires-8 c κs = search needs
-
 returns : tie.Need-returns
 unfolding extended
 returns c =
@@ -75,20 +30,7 @@ returns c =
 pub eight-words-spec : {M : Type 1} → statement M
 eight-words-spec =
     tie.close
-    (tie.spec
-    next-word-requires
-    add-next-word
-    next-word-requires-2
-    add-next-word-2
-    next-word-requires-3
-    add-next-word-3
-    next-word-requires-4
-    add-next-word-4
-    next-word-requires-5
-    add-next-word-5
-    next-word-requires-6
-    add-next-word-6
-    next-word-requires-7
-    add-next-word-7
-    next-word-requires-8
-    returns)
+    (tie.spec (λ c κs. search needs) (λ c. search needs) (λ c κs. search needs) (λ c. search needs)
+    (λ c κs. search needs) (λ c. search needs) (λ c κs. search needs) (λ c. search needs) (λ c κs. search needs)
+    (λ c. search needs) (λ c κs. search needs) (λ c. search needs) (λ c κs. search needs) (λ c. search needs)
+    (λ c κs. search needs) returns)

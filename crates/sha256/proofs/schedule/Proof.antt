@@ -14,21 +14,9 @@ Inv-loop w₀ t₀ w t = (16 ≤ t) × (t ≤ 64) × (t % 8 ≡ 0) × (w ≡ ext
 abbrev μ-loop : tie.MeasureT-loop
 μ-loop w₀ t₀ w t = 64 - t
 
-first-words-requires : tie.Need-first-words-requires Inv-loop μ-loop
-first-words-requires c κs = search needs
-
 loop-holds : tie.Need-loop-holds Inv-loop μ-loop
 unfolding extended
 loop-holds c = (omega arith, omega arith, refl, refl)
-
-eight-words-requires : tie.Need-eight-words-requires Inv-loop μ-loop
-eight-words-requires c κs = search needs
-
-add-t : tie.Need-add-t Inv-loop μ-loop
-add-t c = search needs
-
-loop-less : tie.Need-loop-less Inv-loop μ-loop
-loop-less c = search needs
 
 loop-again : tie.Need-loop-again Inv-loop μ-loop
 loop-again c =
@@ -44,13 +32,5 @@ returns c =
 pub schedule-spec : {M : Type 1} → statement M
 schedule-spec =
     tie.close
-    (tie.spec
-    Inv-loop
-    μ-loop
-    first-words-requires
-    loop-holds
-    eight-words-requires
-    add-t
-    loop-less
-    loop-again
-    returns)
+    (tie.spec Inv-loop μ-loop (λ c κs. search needs) loop-holds (λ c κs. search needs) (λ c. search needs)
+    (λ c. search needs) loop-again returns)

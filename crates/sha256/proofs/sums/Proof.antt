@@ -25,33 +25,6 @@ loop-holds : tie.Need-loop-holds Inv-loop μ-loop
 unfolding table
 loop-holds c = (omega arith, refl)
 
-mul-sum2 : tie.Need-mul-sum2 Inv-loop μ-loop
-mul-sum2 c = search needs
-
-array-read-sum2 : tie.Need-array-read-sum2 Inv-loop μ-loop
-array-read-sum2 c = search needs
-
-mul-sum2-2 : tie.Need-mul-sum2-2 Inv-loop μ-loop
-mul-sum2-2 c = search needs
-
-array-read-sum2-2 : tie.Need-array-read-sum2-2 Inv-loop μ-loop
-array-read-sum2-2 c = search needs
-
-sum2-requires : tie.Need-sum2-requires Inv-loop μ-loop
-sum2-requires c κs = search needs
-
-mul-next : tie.Need-mul-next Inv-loop μ-loop
-mul-next c = search needs
-
-array-write-next : tie.Need-array-write-next Inv-loop μ-loop
-array-write-next c = search needs
-
-add-i : tie.Need-add-i Inv-loop μ-loop
-add-i c = search needs
-
-loop-less : tie.Need-loop-less Inv-loop μ-loop
-loop-less c = search needs
-
 loop-again : tie.Need-loop-again Inv-loop μ-loop
 loop-again c =
     let head = c .before .before in
@@ -66,18 +39,6 @@ returns c =
 pub sums-spec : {M : Type 1} → statement M
 sums-spec =
     tie.close
-    (tie.spec
-    Inv-loop
-    μ-loop
-    loop-holds
-    mul-sum2
-    array-read-sum2
-    mul-sum2-2
-    array-read-sum2-2
-    sum2-requires
-    mul-next
-    array-write-next
-    add-i
-    loop-less
-    loop-again
-    returns)
+    (tie.spec Inv-loop μ-loop loop-holds (λ c. search needs) (λ c. search needs) (λ c. search needs)
+    (λ c. search needs) (λ c κs. search needs) (λ c. search needs) (λ c. search needs) (λ c. search needs)
+    (λ c. search needs) loop-again returns)

@@ -13,51 +13,18 @@ returns : tie.Need-returns
 unfolding pick
 returns c = let at = c .before .before .args .at in let s = c .before .before .args .s .now in rw (lt-leb (at + 4) (length s) (omega arith))
 
-sub-if2 : tie.Need-sub-if2
-sub-if2 c = search needs
-
 returns-2 : tie.Need-returns-2
 unfolding pick
 returns-2 c = let at = c .before .before .before .args .at in let s = c .before .before .before .args .s .now in rw (lt-leb (at + 4) (length s) (omega arith))
 
-bytes-requires : tie.Need-bytes-requires
-bytes-requires c κs = search needs
-
-array-read-s : tie.Need-array-read-s
-array-read-s c = search needs
-
-slice-write-s : tie.Need-slice-write-s
-slice-write-s c = search needs
-
-array-read-s-2 : tie.Need-array-read-s-2
-array-read-s-2 c = search needs
-
-add-s : tie.Need-add-s
-add-s c = search needs
-
 slice-write-s-2 : tie.Need-slice-write-s-2
 slice-write-s-2 c = simp length-set (omega arith)
-
-array-read-s-3 : tie.Need-array-read-s-3
-array-read-s-3 c = search needs
-
-add-s-2 : tie.Need-add-s-2
-add-s-2 c = search needs
 
 slice-write-s-3 : tie.Need-slice-write-s-3
 slice-write-s-3 c = simp length-set (omega arith)
 
-array-read-s-4 : tie.Need-array-read-s-4
-array-read-s-4 c = search needs
-
-add-s-3 : tie.Need-add-s-3
-add-s-3 c = search needs
-
 slice-write-s-4 : tie.Need-slice-write-s-4
 slice-write-s-4 c = simp length-set (omega arith)
-
-same-length : tie.Need-same-length
-same-length c = search needs
 
 returns-3 : tie.Need-returns-3
 unfolding pick putWord
@@ -66,21 +33,6 @@ returns-3 c = let at = c .before .before .before .before .args .at in let s = c 
 pub put-spec : {M : Type 1} → statement M
 put-spec =
     tie.close
-    (tie.spec
-    returns
-    sub-if2
-    returns-2
-    bytes-requires
-    array-read-s
-    slice-write-s
-    array-read-s-2
-    add-s
-    slice-write-s-2
-    array-read-s-3
-    add-s-2
-    slice-write-s-3
-    array-read-s-4
-    add-s-3
-    slice-write-s-4
-    same-length
-    returns-3)
+    (tie.spec returns (λ c. search needs) returns-2 (λ c κs. search needs) (λ c. search needs) (λ c. search needs)
+    (λ c. search needs) (λ c. search needs) slice-write-s-2 (λ c. search needs) (λ c. search needs) slice-write-s-3
+    (λ c. search needs) (λ c. search needs) slice-write-s-4 (λ c. search needs) returns-3)
