@@ -44,7 +44,14 @@ pub sha256-after :
     sha256 (a ++ m) ≡ bytesOfAll (block (block H⁰ (wordsOf 16 a)) (wordsOf 16 (lastBlock 64 m)))
 unfolding sha256 blocks
 sha256-after a m e h =
-    rw (pad-after a m e h, length-append a (lastBlock 64 m), e, length-last 64 m h, words-front 16 a (lastBlock 64 m) (omega arith), drop-at a (lastBlock 64 m) 64 e)
+    rw (
+      pad-after a m e h,
+      length-append a (lastBlock 64 m),
+      e,
+      length-last 64 m h,
+      words-front 16 a (lastBlock 64 m) (omega arith),
+      drop-at a (lastBlock 64 m) 64 e,
+    )
 
 -- The last block as the code makes it: the message in a buffer of zeros, the byte 80h behind it, the length in the last word.
 
@@ -59,7 +66,12 @@ mark : (m : List ℕ) → length m ≤ 55 → set (m ++ replicate (64 - length m
 unfolding marked
 mark m h =
     let room : 64 - length m ≡ suc (59 - length m + 4) = omega arith in
-    rw (room, set-at m 0 (replicate (59 - length m + 4) 0) 0x80 (length m) refl, ← replicate-append-replicate {A = ℕ} (59 - length m) 4 0) (sym (append-assoc m (0x80 ∷ replicate (59 - length m) 0) (replicate 4 0)))
+    rw (
+      room,
+      set-at m 0 (replicate (59 - length m + 4) 0) 0x80 (length m) refl,
+      ← replicate-append-replicate {A = ℕ} (59 - length m) 4 0,
+    )
+    (sym (append-assoc m (0x80 ∷ replicate (59 - length m) 0) (replicate 4 0)))
 
 marked-last : (before : ℕ) (m : List ℕ) → before < 256 → length m ≤ 55 → marked m ++ bytesOf (8 * (before + length m)) ≡ lastBlock before m
 unfolding lastBlock marked
@@ -73,4 +85,9 @@ pub last-block :
     (before : ℕ) (m : List ℕ) → before < 256 → length m ≤ 55 →
     putWord (set (m ++ replicate (64 - length m) 0) (length m) 0x80) 60 (8 * (before + length m)) ≡ lastBlock before m
 last-block before m b h =
-    rw (mark m h, word-more (marked m) (replicate 64 0) 60 (8 * (before + length m)) (length-marked m h) (omega arith), append-nil (marked m ++ bytesOf (8 * (before + length m)))) (marked-last before m b h)
+    rw (
+      mark m h,
+      word-more (marked m) (replicate 64 0) 60 (8 * (before + length m)) (length-marked m h) (omega arith),
+      append-nil (marked m ++ bytesOf (8 * (before + length m))),
+    )
+    (marked-last before m b h)

@@ -16,7 +16,12 @@ pub xor-more :
     set (xorEach pad (take i key) ++ drop i z) i (bitXor (getD key i 0) pad) ≡ xorEach pad (take (i + 1) key) ++ drop (i + 1) z
 xor-more pad key z i hk hz =
     let filled : length (xorEach pad (take i key)) ≡ i = length-map (take i key) _ ∙ length-take-le i key (omega arith) in
-    rw (add-one i, take-suc key i 0 hk, map-append (λ b. bitXor b pad) (take i key) (getD key i 0 ∷ [])) (fill-more (xorEach pad (take i key)) z i (suc i) (bitXor (getD key i 0) pad) filled (sym (add-one i)) hz)
+    rw (
+      add-one i,
+      take-suc key i 0 hk,
+      map-append (λ b. bitXor b pad) (take i key) (getD key i 0 ∷ []),
+    )
+    (fill-more (xorEach pad (take i key)) z i (suc i) (bitXor (getD key i 0) pad) filled (sym (add-one i)) hz)
 
 pub length-xored : (pad : ℕ) (key : List ℕ) → length key ≡ 32 → length (xorEach pad (K₀ key)) ≡ 64
 length-xored pad key e = length-map (K₀ key) _ ∙ length-append key _ ∙ rw (e)

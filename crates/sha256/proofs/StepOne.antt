@@ -19,7 +19,8 @@ stays : (W : List ℕ) (t m k i : ℕ) → i < t + m → getD (extended W t (m +
 unfolding extended withNext
 stays W t m zero i h = rw (add-zero m)
 stays W t m (suc k) i h =
-    rw (add-suc m k) (getD-set-other (extended W t (m + k)) (t + (m + k)) i (nextW (extended W t (m + k)) (t + (m + k))) 0 (λ e. omega arith) ∙ stays W t m k i h)
+    rw (add-suc m k)
+    (getD-set-other (extended W t (m + k)) (t + (m + k)) i (nextW (extended W t (m + k)) (t + (m + k))) 0 (λ e. omega arith) ∙ stays W t m k i h)
 
 module _ (M : List ℕ) (words : length M ≡ 16) (t : ℕ) where
   pub schedule-first : t < 16 → getD (schedule M) t 0 ≡ getD M t 0

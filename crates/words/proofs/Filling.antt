@@ -49,7 +49,11 @@ pub words-more :
     putWord (bytesOfAll (take i h) ++ drop (4 * i) z) (4 * i) (getD h i 0) ≡ bytesOfAll (take (i + 1) h) ++ drop (4 * (i + 1)) z
 words-more h z i hh hz =
     let place : 4 * (i + 1) ≡ 4 * i + 4 = omega arith in
-    rw (place, spread-more bytesOf h i hh) (word-more (bytesOfAll (take i h)) z (4 * i) (getD h i 0) (length-spread-take bytesOf 4 (λ w. refl) h i (omega arith)) hz)
+    rw (
+      place,
+      spread-more bytesOf h i hh,
+    )
+    (word-more (bytesOfAll (take i h)) z (4 * i) (getD h i 0) (length-spread-take bytesOf 4 (λ w. refl) h i (omega arith)) hz)
 
 -- what is left of a buffer of one byte repeated
 pub drop-replicate : (n k a : ℕ) → drop n (replicate k a) ≡ replicate (k - n) a

@@ -7,7 +7,12 @@ use Rattle.hash.proofs.last_block.Statement.{statement}
 use Rattle.hash.proofs.last_block.Tie as tie
 
 returns : tie.Need-returns
-returns c = rw (c .words-of .ensures, c .before .padded .ensures, take-all 55 (c .before .before .before .before .args .message .now) (c .before .before .if1 .taken))
+returns c =
+    rw (
+      c .words-of .ensures,
+      c .before .padded .ensures,
+      take-all 55 (c .before .before .before .before .args .message .now) (c .before .before .if1 .taken),
+    )
 
 slice-aggregate-padded : tie.Need-slice-aggregate-padded
 slice-aggregate-padded c = sym (length-take-le 55 (c .before .before .before .args .message .now) (omega arith))

@@ -18,7 +18,11 @@ returns-2 : tie.Need-returns-2
 unfolding signed pick
 returns-2 c =
     let start = c .before .before .before .before .before in
-    rw (eq-eqb (length (start .args .key .now)) 32 (c .before .before .if1 .left), lt-ltb 55 (length (start .args .message .now)) (c .before .if2 .taken)) (c .refused2 .ensures)
+    rw (
+      eq-eqb (length (start .args .key .now)) 32 (c .before .before .if1 .left),
+      lt-ltb 55 (length (start .args .message .now)) (c .before .if2 .taken),
+    )
+    (c .refused2 .ensures)
 
 returns-3 : tie.Need-returns-3
 unfolding signed pick

@@ -14,11 +14,18 @@ returns c = let at = c .before .before .args .at in let s = c .before .before .a
 
 returns-2 : tie.Need-returns-2
 unfolding pick
-returns-2 c = let at = c .before .before .before .args .at in let s = c .before .before .before .args .s .now in rw (lt-leb (at + 4) (length s) (omega arith))
+returns-2 c =
+    let at = c .before .before .before .args .at in
+    let s = c .before .before .before .args .s .now in
+    rw (lt-leb (at + 4) (length s) (omega arith))
 
 returns-3 : tie.Need-returns-3
 unfolding pick
-returns-3 c = let at = c .before .before .before .before .before .before .before .before .args .at in let s = c .before .before .before .before .before .before .before .before .args .s .now in rw (le-leb (at + 4) (length s) (omega arith)) (c .word .ensures)
+returns-3 c =
+    let at = c .before .before .before .before .before .before .before .before .args .at in
+    let s = c .before .before .before .before .before .before .before .before .args .s .now in
+    rw (le-leb (at + 4) (length s) (omega arith))
+    (c .word .ensures)
 
 pub get-spec : {M : Type 1} → statement M
 get-spec =

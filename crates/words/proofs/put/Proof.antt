@@ -15,7 +15,10 @@ returns c = let at = c .before .before .args .at in let s = c .before .before .a
 
 returns-2 : tie.Need-returns-2
 unfolding pick
-returns-2 c = let at = c .before .before .before .args .at in let s = c .before .before .before .args .s .now in rw (lt-leb (at + 4) (length s) (omega arith))
+returns-2 c =
+    let at = c .before .before .before .args .at in
+    let s = c .before .before .before .args .s .now in
+    rw (lt-leb (at + 4) (length s) (omega arith))
 
 slice-write-s-2 : tie.Need-slice-write-s-2
 slice-write-s-2 c = simp length-set (omega arith)
@@ -28,7 +31,13 @@ slice-write-s-4 c = simp length-set (omega arith)
 
 returns-3 : tie.Need-returns-3
 unfolding pick putWord
-returns-3 c = let at = c .before .before .before .before .args .at in let s = c .before .before .before .before .args .s .now in rw (le-leb (at + 4) (length s) (omega arith), c .bytes .ensures)
+returns-3 c =
+    let at = c .before .before .before .before .args .at in
+    let s = c .before .before .before .before .args .s .now in
+    rw (
+      le-leb (at + 4) (length s) (omega arith),
+      c .bytes .ensures,
+    )
 
 pub put-spec : {M : Type 1} → statement M
 put-spec =

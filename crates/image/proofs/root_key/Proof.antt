@@ -1,0 +1,27 @@
+-- `root_key` meets its contract: the key of the slot only under a set root. Assumes nothing.
+use borrow.Author.Needs.{needs}
+use borrow.Author.Tests.{eq-eqb, ne-eqb}
+use Rattle.words.specs.Choice.{pick}
+use Rattle.image.specs.Slot.{rootKey}
+use Rattle.image.proofs.root_key.Statement.{statement}
+use Rattle.image.proofs.root_key.Tie as tie
+
+returns : tie.Need-returns
+unfolding rootKey pick
+returns c = rw (← c .before .before .slot-at .ensures .0, ← c .before .get .ensures, ne-eqb (c .before .get .result) 0 (c .if1 .taken))
+
+returns-2 : tie.Need-returns-2
+unfolding rootKey pick
+returns-2 c =
+    rw (
+      ← c .before .before .before .slot-at .ensures .0,
+      ← c .before .before .get .ensures,
+      eq-eqb (c .before .before .get .result) 0 (c .before .if1 .left),
+    )
+    (c .key-at .ensures)
+
+pub root-key-spec : {M : Type 1} → statement M
+root-key-spec =
+    tie.close
+    (tie.spec (λ c κs. search needs) (λ c κs. search needs) returns (λ c. search needs) (λ c κs. search needs)
+    returns-2)

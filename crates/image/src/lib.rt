@@ -1,0 +1,147 @@
+// The counter image: its header, refusals 1 to 3, and its slots. Contracts cite specs/, in document 01's words.
+ghost use mathlib.Core.Path.{_≡_};
+ghost use Prim.Native.Nat.{_+_, _<_, _^_};
+ghost use lib.ListN.{getD};
+ghost use Rattle.words.specs.Table.{table};
+ghost use Rattle.image.specs.Header.{slotAt};
+ghost use Rattle.image.specs.Refusal.{layoutRefusal, headerRefusal, refusal};
+ghost use Rattle.image.specs.Slot.{slotOf, isState, isBad, rootKey};
+
+// The three words of a slot that are no key.
+pub struct Slot {
+    pub root: u32,
+    pub counter: u32,
+    pub value: u32,
+}
+
+// Refusal 3, of the four words of the header; the sum is exact, in 64 bits.
+fn layout_refusal(count: u32, offset: u32, size: u32, total: u32) -> u32
+    ensures { λ r. ⌜ r ≡ layoutRefusal count offset size total ⌝ }
+{
+    if offset < 16 {
+        return 3;
+    }
+    if offset % 4 != 0 {
+        return 3;
+    }
+    if size != 48 {
+        return 3;
+    }
+    if (total as u64) < offset as u64 + 48 * count as u64 {
+        return 3;
+    }
+    0
+}
+
+// Refusals 2 and 3, of the four words of the header.
+fn header_refusal(count: u32, offset: u32, size: u32, total: u32) -> u32
+    ensures { λ r. ⌜ r ≡ headerRefusal count offset size total ⌝ }
+{
+    if count == 0 {
+        return 2;
+    }
+    if 4 < count {
+        return 2;
+    }
+    layout_refusal(count, offset, size, total)
+}
+
+// Refusals 1 to 3, in order; 0 if the image is accepted.
+pub fn refusal(image: &[u8]) -> u32
+    ensures { λ r. ⌜ r ≡ refusal (now (image .entry)) ⌝ }
+{
+    if image.len() < 16 {
+        return 1;
+    }
+    if 65536 < image.len() {
+        return 1;
+    }
+    let total = words::get(image, 12);
+    if total as usize != image.len() {
+        return 1;
+    }
+    header_refusal(
+        words::get(image, 0),
+        words::get(image, 4),
+        words::get(image, 8),
+        total,
+    )
+}
+
+// Where the slot of a counter starts.
+pub fn slot_at(image: &[u8], counter: u8) -> usize
+    ensures { λ r. ⌜ (r ≡ slotAt (now (image .entry)) counter) × (r < 2 ^ 41) ⌝ }
+{
+    words::get(image, 4) as usize + words::get(image, 8) as usize * counter as usize
+}
+
+// The slot of a counter.
+pub fn slot_of(image: &[u8], counter: u8) -> Slot
+    ensures { λ r. ⌜ r ≡ slotOf (now (image .entry)) counter ⌝ }
+{
+    let at = slot_at(image, counter);
+    Slot {
+        root: words::get(image, at),
+        counter: words::get(image, at + 4),
+        value: words::get(image, at + 8),
+    }
+}
+
+// Whether a word is one of the two state words.
+fn is_state(word: u32) -> bool
+    ensures { λ r. ⌜ r ≡ isState word ⌝ }
+{
+    if word == 0 {
+        return true;
+    }
+    word == 0xFFFFFFFF
+}
+
+// Whether a slot is bad.
+pub fn is_bad(slot: Slot) -> bool
+    ensures { λ r. ⌜ r ≡ isBad slot ⌝ }
+{
+    let root = slot.root;
+    let counter = slot.counter;
+    if is_state(root) {
+        if is_state(counter) {
+            return root == 0 && counter != 0;
+        }
+    }
+    true
+}
+
+// The byte at a place, 0 past the end.
+fn byte_or_0(s: &[u8], at: usize) -> u8
+    ensures { λ r. ⌜ r ≡ getD (now (s .entry)) at 0 ⌝ }
+{
+    if at < s.len() {
+        return s[at];
+    }
+    0
+}
+
+// The 32 bytes at a place, 0 past the end.
+fn key_at(s: &[u8], at: usize) -> [u8; 32]
+    requires { ⌜ at < 2 ^ 42 ⌝ }
+    ensures { λ r. ⌜ r ≡ table (λ i. getD (now (s .entry)) (at + i) 0) 32 ⌝ }
+{
+    let mut key = [0u8; 32];
+    let mut i = 0;
+    while i < 32 {
+        key[i] = byte_or_0(s, at + i);
+        i += 1;
+    }
+    key
+}
+
+// The root key in use of a counter.
+pub fn root_key(image: &[u8], counter: u8) -> [u8; 32]
+    ensures { λ r. ⌜ r ≡ rootKey (now (image .entry)) counter ⌝ }
+{
+    let at = slot_at(image, counter);
+    if words::get(image, at) != 0 {
+        return [255u8; 32];
+    }
+    key_at(image, at + 16)
+}
