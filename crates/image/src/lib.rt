@@ -111,16 +111,6 @@ pub fn is_bad(slot: Slot) -> bool
     true
 }
 
-// The byte at a place, 0 past the end.
-fn byte_or_0(s: &[u8], at: usize) -> u8
-    ensures { λ r. ⌜ r ≡ getD (now (s .entry)) at 0 ⌝ }
-{
-    if at < s.len() {
-        return s[at];
-    }
-    0
-}
-
 // The 32 bytes at a place, 0 past the end.
 fn key_at(s: &[u8], at: usize) -> [u8; 32]
     requires { ⌜ at < 2 ^ 42 ⌝ }
@@ -129,7 +119,7 @@ fn key_at(s: &[u8], at: usize) -> [u8; 32]
     let mut key = [0u8; 32];
     let mut i = 0;
     while i < 32 {
-        key[i] = byte_or_0(s, at + i);
+        key[i] = words::byte(s, at + i);
         i += 1;
     }
     key

@@ -4,6 +4,7 @@ use denote.Ref.{now}
 use Rattle.words.proofs.Unique.{OneResult, OneLent}
 use Rattle.words.proofs.word.Reads as word-reads
 use Rattle.words.proofs.bytes.Reads as bytes-reads
+use Rattle.words.proofs.byte.Reads as byte-reads
 use Rattle.words.proofs.get.Reads as get-reads
 use Rattle.words.proofs.put.Reads as put-reads
 
@@ -12,6 +13,9 @@ word-one κs a x y s t p q = p ∙ sym q
 
 bytes-one : OneResult bytes-reads.Post
 bytes-one κs a x y s t p q = p ∙ sym q
+
+byte-one : OneResult byte-reads.Post
+byte-one κs a x y s t p q = p ∙ sym q
 
 get-one : OneResult get-reads.Post
 get-one κs a x y s t p q = p ∙ sym q

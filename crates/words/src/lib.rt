@@ -3,6 +3,7 @@
 // Contracts cite specs/Words.antt; specs/Table.antt is for lists that are filled place by place.
 ghost use mathlib.Core.Path.{_≡_};
 ghost use Prim.Native.Nat.{_<_};
+ghost use lib.ListN.{getD};
 ghost use Rattle.words.specs.Words.{wordOf, bytesOf, wordOr0, withWord};
 
 // A byte as a word. A cast of its own, so that its bound is shown once.
@@ -29,6 +30,16 @@ pub fn bytes(w: u32) -> [u8; 4]
         (w / 256 % 256) as u8,
         (w % 256) as u8,
     ]
+}
+
+// The byte at a place of a slice, or 0 past its end.
+pub fn byte(s: &[u8], at: usize) -> u8
+    ensures { λ r. ⌜ r ≡ getD (now (s .entry)) at 0 ⌝ }
+{
+    if at < s.len() {
+        return s[at];
+    }
+    0
 }
 
 // The word at a place of a slice, or 0 where its four bytes are not all inside.

@@ -23,7 +23,7 @@ loop-holds c = (omega arith, refl)
 loop-again : tie.Need-loop-again Inv-loop μ-loop
 loop-again c =
     let head = c .before .before in
-    (omega arith, rw (c .byte-or-0 .ensures, head .loop .inv .1) (table-more _ (head .loop .i) _ (omega arith)))
+    (omega arith, rw (c .byte .ensures, head .loop .inv .1) (table-more _ (head .loop .i) _ (omega arith)))
 
 returns : tie.Need-returns Inv-loop μ-loop
 returns c =
