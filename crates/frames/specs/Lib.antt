@@ -1,0 +1,3 @@
+-- The frames by their first byte, and what the read hands out.
+pub mod Classes
+pub mod Reading
