@@ -1,0 +1,2 @@
+-- The comparison of secrets.
+pub mod Compare
