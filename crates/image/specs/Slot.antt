@@ -41,6 +41,6 @@ isBad slot =
 -- slot: 16-47 root key. While the root state is not set, the root key in use is 32 bytes of FFh, no matter what the slot holds
 unfoldable pub rootKey : List ℕ → ℕ → List ℕ
 rootKey image counter =
-    pick (isSet (wordOr0 image (slotAt image counter)))
+    pick (isSet (slotOf image counter .root))
     (table (λ i. getD image (slotAt image counter + 16 + i) 0) 32)
     (replicate 32 255)

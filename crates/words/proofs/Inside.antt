@@ -1,9 +1,9 @@
--- Reading and storing words that are all inside. Assumes nothing.
+-- Reading and storing words that are all inside, or not. Assumes nothing.
 use mathlib.Core.Path.{_≡_}
 use mathlib.Core.List.{List, _++_}
-use Prim.Native.Nat.{ℕ, _+_, _*_, _≤_}
+use Prim.Native.Nat.{ℕ, _+_, _*_, _≤_, _<_}
 use native.Mathlib.Omega.{arith}
-use borrow.Author.Tests.{le-leb}
+use borrow.Author.Tests.{le-leb, lt-leb}
 use lib.ListN.{length, List·getD-append}
 use Rattle.words.specs.Choice.{pick}
 use Rattle.words.specs.Words.{wordAt, wordsOf, putWord, wordOr0, withWord}
@@ -17,6 +17,16 @@ module _ (s : List ℕ) (at : ℕ) (h : at + 4 ≤ length s) where
   pub put-inside : (w : ℕ) → withWord s at w ≡ putWord s at w
   unfolding pick
   put-inside w = rw (le-leb (at + 4) (length s) h)
+
+-- where it is not all inside, 0 is read and nothing is stored
+module _ (s : List ℕ) (at : ℕ) (h : length s < at + 4) where
+  pub get-outside : wordOr0 s at ≡ 0
+  unfolding pick
+  get-outside = rw (lt-leb (at + 4) (length s) h)
+
+  pub put-outside : (w : ℕ) → withWord s at w ≡ s
+  unfolding pick
+  put-outside w = rw (lt-leb (at + 4) (length s) h)
 
 -- words that lie in the first of two lists
 pub words-front : (n : ℕ) (s t : List ℕ) → 4 * n ≤ length s → wordsOf n (s ++ t) ≡ wordsOf n s

@@ -2,16 +2,16 @@
 use borrow.Author.Needs.{needs}
 use borrow.Author.Tests.{eq-eqb, ne-eqb}
 use Rattle.words.specs.Choice.{pick}
-use Rattle.image.specs.Slot.{rootKey}
+use Rattle.image.specs.Slot.{slotOf, rootKey}
 use Rattle.image.proofs.root_key.Statement.{statement}
 use Rattle.image.proofs.root_key.Tie as tie
 
 returns : tie.Need-returns
-unfolding rootKey pick
+unfolding rootKey slotOf pick
 returns c = rw (← c .before .before .slot-at .ensures .0, ← c .before .get .ensures, ne-eqb (c .before .get .result) 0 (c .if1 .taken))
 
 returns-2 : tie.Need-returns-2
-unfolding rootKey pick
+unfolding rootKey slotOf pick
 returns-2 c =
     rw (
       ← c .before .before .before .slot-at .ensures .0,
