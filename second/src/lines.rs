@@ -1,5 +1,5 @@
 //! The request lines: one request a line, one answer a line, in order. A line that is no request
-//! is answered by `?`. The C shim over the proved library answers the same lines:
+//! is answered by `?`. Those about the hash, which the C shim over the proved library answers too:
 //!
 //! - `H MESSAGE`: the hash call; the answer is the refusal number and the digest;
 //! - `M KEY MESSAGE`: the HMAC call, answered likewise;
@@ -9,7 +9,9 @@
 use crate::hash;
 use crate::hex;
 use crate::sha256;
-use std::io::{self, BufRead, Write};
+use std::io::{self, BufRead, BufReader, BufWriter, Write};
+
+const BUFFER: usize = 65_536;
 
 fn answer(number: u32, bytes: &[u8]) -> String {
     format!("{} {}", number, hex::write(bytes))
@@ -41,10 +43,11 @@ pub fn digest(line: &[u8]) -> Option<String> {
     Some(hex::write(&sha256::digest(&hex::read(line)?)))
 }
 
-/// Answers the lines of standard input, each one as soon as it is read.
+/// Answers the lines of standard input. The answers are sent when no more input is at hand, so that
+/// nobody waits for one, and many lines cost few writes.
 pub fn serve(answer: fn(&[u8]) -> Option<String>) -> Result<(), String> {
-    let mut input = io::stdin().lock();
-    let mut output = io::stdout().lock();
+    let mut input = BufReader::with_capacity(BUFFER, io::stdin().lock());
+    let mut output = BufWriter::with_capacity(BUFFER, io::stdout().lock());
     let mut line = Vec::new();
     let failed = |error: io::Error| error.to_string();
     while input.read_until(b'\n', &mut line).map_err(failed)? > 0 {
@@ -53,7 +56,10 @@ pub fn serve(answer: fn(&[u8]) -> Option<String>) -> Result<(), String> {
         }
         let text = answer(&line).unwrap_or_else(|| "?".to_string());
         writeln!(output, "{}", text).map_err(failed)?;
+        if input.buffer().is_empty() {
+            output.flush().map_err(failed)?;
+        }
         line.clear();
     }
-    Ok(())
+    output.flush().map_err(failed)
 }
