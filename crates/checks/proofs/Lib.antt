@@ -1,2 +1,3 @@
--- That each public function has one answer only.
+-- What the proofs of others share, and that each public function has one answer only.
+pub mod Fields
 pub mod OneAnswer

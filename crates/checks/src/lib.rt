@@ -4,7 +4,7 @@
 ghost use mathlib.Core.Path.{_≡_};
 ghost use Rattle.checks.specs.Layout.{frameLength};
 ghost use Rattle.checks.specs.Checks.{shapeStatus, counterStatus, stateStatus, slotStatus, arrivalStatus};
-ghost use Rattle.checks.specs.Jobs.{lengthOf, rootKind, kindOf};
+ghost use Rattle.checks.specs.Jobs.{lengthOf, commandOf, signatureSteps, hashSteps, rootKind, kindOf};
 use image::Slot;
 
 // The kinds of job, named by what they do after the signature: store a root key and set the counter, store a root key, set the
@@ -17,6 +17,14 @@ pub enum Kind {
     SessionKey,
     Increment,
     Request,
+}
+
+// The four commands, types 00 to 03.
+pub enum Command {
+    WriteRootKey,
+    UpdateSessionKey,
+    IncrementCounter,
+    RequestCounter,
 }
 
 // The length of a frame, by its type.
@@ -125,6 +133,45 @@ pub fn length_of(kind: Kind) -> u8
         Kind::SessionKey => 8,
         Kind::Increment => 5,
         Kind::Request => 8,
+    }
+}
+
+// The command that a kind of job carries out.
+pub fn command_of(kind: Kind) -> Command
+    ensures { λ r. ⌜ r ≡ commandOf kind ⌝ }
+{
+    match kind {
+        Kind::RootKeyAndCounter => Command::WriteRootKey,
+        Kind::RootKey => Command::WriteRootKey,
+        Kind::CounterOnly => Command::WriteRootKey,
+        Kind::Nothing => Command::WriteRootKey,
+        Kind::SessionKey => Command::UpdateSessionKey,
+        Kind::Increment => Command::IncrementCounter,
+        Kind::Request => Command::RequestCounter,
+    }
+}
+
+// The step in which a command's checks 8 to 10 are made: the last of its signature check.
+pub fn signature_steps(command: Command) -> u8
+    ensures { λ r. ⌜ r ≡ signatureSteps command ⌝ }
+{
+    match command {
+        Command::WriteRootKey => 4,
+        Command::UpdateSessionKey => 8,
+        Command::IncrementCounter => 4,
+        Command::RequestCounter => 4,
+    }
+}
+
+// How many of a command's steps are one block each; those after them store a word each.
+pub fn hash_steps(command: Command) -> u8
+    ensures { λ r. ⌜ r ≡ hashSteps command ⌝ }
+{
+    match command {
+        Command::WriteRootKey => 4,
+        Command::UpdateSessionKey => 8,
+        Command::IncrementCounter => 4,
+        Command::RequestCounter => 8,
     }
 }
 

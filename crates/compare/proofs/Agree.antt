@@ -1,5 +1,5 @@
 -- No bit differs exactly when the bytes are the same: an or is 0 only of zeros, and an xor only of equals. Assumes nothing.
-use mathlib.Core.Path.{_≡_, refl, ap, sym, subst, _∙_}
+use mathlib.Core.Path.{_≡_, refl, ap, sym, _∙_}
 use mathlib.Core.Bool.{Bool, true, false}
 use mathlib.Core.List.{List, [], _∷_}
 use mathlib.Core.Logic.{⊎-elim}
@@ -8,10 +8,11 @@ use native.Mathlib.Nat.{not-suc-le-zero, le-of-suc-le-suc, eq-or-lt-of-le}
 use native.Mathlib.Omega.{arith}
 use borrow.Author.Tests.{eq-eqb, ne-eqb, eqb-true}
 use lib.Bits.{bitOr, bitXor, or-add-and, xor-add-and, and-le-l, and-le-r, xor-self}
-use lib.Dec.{eqb, T}
+use lib.Dec.{eqb}
 use lib.ListN.{length, getD}
 use lib.Seq.{ext-getD}
 use Rattle.words.specs.Choice.{pick}
+use Rattle.words.proofs.Choice.{never, both}
 use Rattle.compare.specs.Compare.{sameBytes, differences}
 
 xor-none : (x y : ℕ) → bitXor x y ≡ 0 → x ≡ y
@@ -43,14 +44,6 @@ same-self : (a : List ℕ) → sameBytes a a ≡ true
 unfolding sameBytes pick
 same-self [] = refl
 same-self (x ∷ a) = rw (eq-eqb x x refl, same-self a)
-
-never : false ≡ true → ⊥
-never e = subst T (sym e) tt
-
-both : (s t : Bool) → pick s t false ≡ true → (s ≡ true) × (t ≡ true)
-unfolding pick
-both true t e = (refl, e)
-both false t e = absurd (never e)
 
 -- lists that are the same are equal
 same-equal : (a b : List ℕ) → sameBytes a b ≡ true → a ≡ b

@@ -1,0 +1,61 @@
+-- Document 01, "A taken OP1 frame": checks 1 to 7 are made on arrival with no step, then a job runs. Assumes nothing.
+use Prim.Native.Nat.{ℕ}
+use mathlib.Core.Bool.{Bool, true, false}
+use mathlib.Core.List.{List}
+use lib.Dec.{eqb}
+use lib.ListN.{replicate}
+use Rattle.words.specs.Choice.{pick}
+use Rattle.compare.specs.Compare.{sameBytes}
+use Rattle.image.specs.Header.{count}
+use Rattle.image.specs.Slot.{slotOf, rootKey}
+use Rattle.checks.specs.Layout.{typeOf, counterOf, field}
+use Rattle.checks.specs.Checks.{arrivalStatus}
+use Rattle.checks.specs.Jobs.{kindOf}
+use Rattle.state.specs.declared.Job.{Job}
+use Rattle.state.specs.declared.State.{State}
+use Rattle.state.specs.Parts.{noReply, sessionKey}
+
+-- what a job keeps of a frame: its bytes, and zeros up to 64
+abbrev pub frameKept : List ℕ → List ℕ
+frameKept frame = field 0 64 frame
+
+-- a root key frame's key is all FFh
+unfoldable pub isTemporary : List ℕ → Bool
+isTemporary frame = sameBytes (field 4 32 frame) (replicate 32 255)
+
+-- the status of checks 1 to 7, 0 if none fails
+unfoldable pub statusOnArrival : List ℕ → State → List ℕ → ℕ
+statusOnArrival image s frame =
+    arrivalStatus frame (count image) (slotOf image (counterOf frame)) (sessionKey s (counterOf frame) .there)
+
+-- the job of a frame. The root key in use is read on arrival and kept, and so is the kind of job
+unfoldable pub jobOf : List ℕ → List ℕ → Job
+jobOf image frame =
+    record {
+      there = true;
+      kind = kindOf (typeOf frame) (isTemporary (frameKept frame)) (slotOf image (counterOf frame) .counter);
+      counter = counterOf frame;
+      step = 0;
+      frame = frameKept frame;
+      root = rootKey image (counterOf frame);
+      made = replicate 32 0;
+      inner = replicate 8 0;
+      kept = 0;
+    }
+
+-- a taken frame: status and job, the reply is forgotten, and reset-enable is cleared
+unfoldable pub taken : State → ℕ → Job → State
+taken s status job =
+    record {
+      status = status;
+      keys = s .keys;
+      reply = noReply;
+      enabled = false;
+      chain = s .chain;
+      job = job;
+    }
+
+-- the state after a frame is taken: a job runs, with status 01h, or the first failing check has decided
+unfoldable pub arrived : List ℕ → State → List ℕ → State
+arrived image s frame =
+    pick (eqb (statusOnArrival image s frame) 0) (taken s 0x01 (jobOf image frame)) (taken s (statusOnArrival image s frame) (s .job))

@@ -1,0 +1,2 @@
+-- A command frame that arrives while the device is idle.
+pub mod Arrival

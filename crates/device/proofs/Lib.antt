@@ -1,0 +1,4 @@
+-- That a job ends, the laws of the steps left, and that each public function has one answer only.
+pub mod Ends
+pub mod Left
+pub mod OneAnswer

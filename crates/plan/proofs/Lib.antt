@@ -1,0 +1,3 @@
+-- What the proofs share, and that each public function has one answer only.
+pub mod KeyWords
+pub mod OneAnswer

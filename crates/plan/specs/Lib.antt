@@ -1,0 +1,2 @@
+-- What a job stores after its signature.
+pub mod Stores

@@ -1,0 +1,3 @@
+-- The hash steps of a job.
+pub mod Signing
+pub mod Hashed

@@ -1,0 +1,26 @@
+-- `refusal` meets its contract: 1 to 3 come first. Assumes nothing.
+use borrow.Author.Needs.{needs}
+use borrow.Author.Tests.{eq-eqb, ne-eqb}
+use Rattle.words.specs.Choice.{pick}
+use Rattle.state.specs.Refusal.{deviceRefusal}
+use Rattle.state.proofs.refusal.Statement.{statement}
+use Rattle.state.proofs.refusal.Tie as tie
+
+returns : tie.Need-returns
+unfolding deviceRefusal pick
+returns c = rw (← c .before .refusal .ensures, ne-eqb (c .before .refusal .result) 0 (c .if1 .taken))
+
+returns-2 : tie.Need-returns-2
+unfolding deviceRefusal pick
+returns-2 c =
+    let refusal-call = c .before .before .before .refusal in
+    rw (
+      ← refusal-call .ensures,
+      eq-eqb (refusal-call .result) 0 (c .before .before .if1 .left),
+      ← c .before .get .ensures,
+    )
+    (c .job-refusal .ensures)
+
+pub refusal-spec : {M : Type 1} → statement M
+refusal-spec =
+    tie.close (tie.spec (λ c κs. search needs) returns (λ c κs. search needs) (λ c κs. search needs) returns-2)

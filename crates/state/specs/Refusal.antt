@@ -1,0 +1,23 @@
+-- Document 01, "Refusal numbers": 4, after 1 to 3. Assumes nothing.
+use Prim.Native.Nat.{ℕ}
+use mathlib.Core.Bool.{Bool, false}
+use mathlib.Core.List.{List}
+use lib.Dec.{ltb}
+use Rattle.words.specs.Choice.{pick}
+use Rattle.image.specs.Header.{count}
+use Rattle.image.specs.Refusal.{refusal}
+use Rattle.checks.specs.Checks.{orElse}
+use Rattle.checks.specs.Jobs.{lengthOf}
+use Rattle.state.specs.declared.State.{State}
+
+-- a job runs: it is there, and its step number, the number of steps done, is below the length of its kind of job
+unfoldable pub isRunning : State → Bool
+isRunning s = pick (s .job .there) (ltb (s .job .step) (lengthOf (s .job .kind))) false
+
+-- 4: a job whose counter number is not below the count, or whose step number is not below the length of its kind of job
+unfoldable pub jobRefusal : ℕ → State → ℕ
+jobRefusal counters s = pick (s .job .there) (pick (ltb (s .job .counter) counters) (pick (isRunning s) 0 4) 4) 0
+
+-- device calls check 1 to 4 in order
+unfoldable pub deviceRefusal : List ℕ → State → ℕ
+deviceRefusal image s = orElse (refusal image) (jobRefusal (count image) s)

@@ -1,0 +1,62 @@
+-- `hash_step` meets its contract: the checks in the last step of the signature check. Assumes nothing.
+use borrow.Author.Needs.{needs}
+use Prim.Native.Nat.{_+_}
+use borrow.Author.Tests.{eq-eqb, ne-eqb}
+use Rattle.words.specs.Choice.{pick}
+use Rattle.signing.specs.Hashed.{withBlock, hashed}
+use Rattle.steps.specs.Deciding.{hashStep}
+use Rattle.steps.proofs.hash_step.Statement.{statement}
+use Rattle.steps.proofs.hash_step.Tie as tie
+
+decided-requires : tie.Need-decided-requires
+unfolding hashed withBlock
+decided-requires c κs =
+    let start = c .before .before .before .before .before .before .before .before in
+    let hashed-call = c .before .before .before .before .before .before .hashed in
+    rw (hashed-call .ensures) (start .pre)
+
+returns : tie.Need-returns
+unfolding hashStep pick
+returns c =
+    let a = c .before .before .before .before .before .before .before .before .before .args in
+    let hashed-call = c .before .before .before .before .before .before .before .hashed in
+    let command-of = c .before .before .before .before .command-of in
+    let last = c .before .before .before .signature-steps in
+    let job = a .s .job in
+    rw (
+      ← hashed-call .ensures,
+      ← c .before .slot-of .ensures,
+      ← command-of .ensures,
+      ← last .ensures,
+      eq-eqb (job .step + 1) (last .result) (c .before .before .if1 .taken),
+    )
+    (c .decided .ensures)
+
+advanced-requires : tie.Need-advanced-requires
+unfolding hashed withBlock
+advanced-requires c κs =
+    let start = c .before .before .before .before .before .before .before in
+    let hashed-call = c .before .before .before .before .before .hashed in
+    rw (hashed-call .ensures) (start .pre)
+
+returns-2 : tie.Need-returns-2
+unfolding hashStep pick
+returns-2 c =
+    let a = c .before .before .before .before .before .before .before .before .args in
+    let hashed-call = c .before .before .before .before .before .before .hashed in
+    let command-of = c .before .before .before .command-of in
+    let last = c .before .before .signature-steps in
+    let job = a .s .job in
+    rw (
+      ← hashed-call .ensures,
+      ← command-of .ensures,
+      ← last .ensures,
+      ne-eqb (job .step + 1) (last .result) (c .before .if1 .left),
+    )
+    (c .advanced .ensures)
+
+pub hash-step-spec : {M : Type 1} → statement M
+hash-step-spec =
+    tie.close
+    (tie.spec (λ c κs. search needs) (λ c. search needs) (λ c κs. search needs) (λ c κs. search needs)
+    (λ c κs. search needs) decided-requires returns advanced-requires returns-2)

@@ -1,0 +1,13 @@
+-- `with_kept` meets its contract. Assumes nothing.
+use borrow.Author.Needs.{needs}
+use mathlib.Core.Path.{refl}
+use Rattle.steps.specs.Deciding.{withKept}
+use Rattle.steps.proofs.with_kept.Statement.{statement}
+use Rattle.steps.proofs.with_kept.Tie as tie
+
+returns : tie.Need-returns
+unfolding withKept
+returns c = refl
+
+pub with-kept-spec : {M : Type 1} → statement M
+with-kept-spec = tie.close (tie.spec returns)

@@ -1,0 +1,54 @@
+-- Document 01, "Steps": checks 8 to 10 are made in the last step of the signature check. Assumes nothing.
+use Prim.Native.Nat.{ℕ, _+_, _%_, _^_}
+use mathlib.Core.List.{List}
+use lib.Dec.{eqb}
+use Rattle.words.specs.Choice.{pick}
+use Rattle.words.specs.Words.{bytesOfAll}
+use Rattle.image.specs.Slot.{slotOf}
+use Rattle.checks.specs.Jobs.{commandOf, signatureSteps}
+use Rattle.checks.specs.declared.Command.{Command}
+use Rattle.checks.specs.declared.Command.the-variants.{WriteRootKey, UpdateSessionKey, IncrementCounter, RequestCounter}
+use Rattle.verdict.specs.Verdict.{verdict}
+use Rattle.state.specs.declared.State.{State}
+use Rattle.state.specs.Parts.{withJob, posted}
+use Rattle.signing.specs.Hashed.{hashed}
+use Rattle.steps.specs.Ending.{advanced}
+
+-- the counter value is read in step 4 and kept: for type 02 its successor, the word to store (check 10 has shut FFFFFFFFh out),
+-- for type 03 the value to report
+abbrev pub keptAfter : Command → ℕ → ℕ → ℕ
+keptAfter WriteRootKey kept value = kept
+keptAfter UpdateSessionKey kept value = kept
+keptAfter IncrementCounter kept value = (value + 1) % 2 ^ 32
+keptAfter RequestCounter kept value = value
+
+unfoldable pub withKept : State → ℕ → State
+withKept s kept =
+    withJob s
+    (record {
+      there = s .job .there;
+      kind = s .job .kind;
+      counter = s .job .counter;
+      step = s .job .step;
+      frame = s .job .frame;
+      root = s .job .root;
+      made = s .job .made;
+      inner = s .job .inner;
+      kept = kept;
+    })
+
+-- the status that checks 8 to 10 give, of the digest that the state holds and the counter value
+abbrev pub verdictOf : State → ℕ → ℕ
+verdictOf s value = verdict (commandOf (s .job .kind)) (s .job .frame) (bytesOfAll (s .chain)) value
+
+-- a failed check ends the job and changes nothing but status
+unfoldable pub decided : State → ℕ → State
+decided s value =
+    pick (eqb (verdictOf s value) 0) (advanced (withKept s (keptAfter (commandOf (s .job .kind)) (s .job .kept) value)))
+    (posted s (verdictOf s value))
+
+-- one SHA-256 block, and in the last of the signature check the checks
+unfoldable pub hashStep : List ℕ → State → State
+hashStep image s =
+    pick (eqb (s .job .step + 1) (signatureSteps (commandOf (s .job .kind)))) (decided (hashed s) (slotOf image (s .job .counter) .value))
+    (advanced (hashed s))

@@ -1,0 +1,4 @@
+-- One step of a job.
+pub mod Ending
+pub mod Deciding
+pub mod Step

@@ -1,0 +1,86 @@
+// Checks 8 to 10, made in the last step of a signature check.
+//
+// The digest is secret until it is compared, and compared at every byte. A status of 0 says that no check failed.
+ghost use mathlib.Core.Path.{_≡_};
+ghost use Rattle.checks.specs.Checks.{orElse};
+ghost use Rattle.verdict.specs.Signature.{signatureHolds, badSignature, signatureStatus};
+ghost use Rattle.verdict.specs.Verdict.{incrementStatus, valueStatus, verdict};
+use checks::Command;
+
+// Whether the signature in a frame is that of the digest: of type 00 the last 28 bytes count, of the others all 32.
+fn signature_holds(command: Command, frame: [u8; 64], digest: [u8; 32]) -> bool
+    ensures { λ r. ⌜ r ≡ signatureHolds command frame digest ⌝ }
+{
+    match command {
+        Command::WriteRootKey => compare::same(&digest[4..32], &frame[36..64]),
+        Command::UpdateSessionKey => compare::same(&digest, &frame[8..40]),
+        Command::IncrementCounter => compare::same(&digest, &frame[8..40]),
+        Command::RequestCounter => compare::same(&digest, &frame[16..48]),
+    }
+}
+
+// The status of a wrong signature.
+fn bad_signature(command: Command) -> u8
+    ensures { λ r. ⌜ r ≡ badSignature command ⌝ }
+{
+    match command {
+        Command::WriteRootKey => 0x02,
+        Command::UpdateSessionKey => 0x04,
+        Command::IncrementCounter => 0x04,
+        Command::RequestCounter => 0x04,
+    }
+}
+
+// Check 8.
+fn signature_status(command: Command, frame: [u8; 64], digest: [u8; 32]) -> u8
+    ensures { λ r. ⌜ r ≡ signatureStatus command frame digest ⌝ }
+{
+    if signature_holds(command, frame, digest) {
+        return 0;
+    }
+    bad_signature(command)
+}
+
+// Checks 9 and 10 of an increment, of the frame's data and the counter value.
+fn increment_status(sent: u32, value: u32) -> u8
+    ensures { λ r. ⌜ r ≡ incrementStatus sent value ⌝ }
+{
+    if sent != value {
+        return 0x10;
+    }
+    if value == 0xFFFFFFFF {
+        return 0x20;
+    }
+    0
+}
+
+// Checks 9 and 10.
+fn value_status(command: Command, frame: [u8; 64], value: u32) -> u8
+    ensures { λ r. ⌜ r ≡ valueStatus command frame value ⌝ }
+{
+    match command {
+        Command::WriteRootKey => 0,
+        Command::UpdateSessionKey => 0,
+        Command::IncrementCounter => increment_status(words::get(&frame, 4), value),
+        Command::RequestCounter => 0,
+    }
+}
+
+// The first of two statuses that is not 0.
+fn first_failing(status: u8, after: u8) -> u8
+    ensures { λ r. ⌜ r ≡ orElse status after ⌝ }
+{
+    if status != 0 {
+        return status;
+    }
+    after
+}
+
+// Checks 8 to 10: the status of the first that fails, 0 if none does. The signature decides before the counter data does.
+pub fn verdict(command: Command, frame: [u8; 64], digest: [u8; 32], value: u32) -> u8
+    ensures { λ r. ⌜ r ≡ verdict command frame digest value ⌝ }
+{
+    let signature = signature_status(command, frame, digest);
+    let data = value_status(command, frame, value);
+    first_failing(signature, data)
+}
