@@ -65,9 +65,10 @@ fn job_of(image: &[u8], frame: &[u8]) -> Job
 fn taken(s: State, status: u8, job: Job) -> State
     ensures { λ r. ⌜ r ≡ taken s status job ⌝ }
 {
+    let none = state::no_reply();
     let mut t = s;
     t.status = status;
-    t.reply = state::no_reply();
+    t.reply = none;
     t.enabled = false;
     t.job = job;
     t

@@ -14,6 +14,9 @@ ghost use Rattle.device.specs.Calls.{device, answer, poweredUp, afterFra
 use frames::Class;
 use state::State;
 
+// The number of a call that is done.
+const DONE: u32 = 0;
+
 // The answer of a call: its number, 0 if it is done, else the refusal's; the steps done; the state afterwards.
 pub struct Answer {
     pub number: u32,
@@ -83,16 +86,23 @@ fn put_output(class: Class, s: State, output: &mut [u8])
     }
 }
 
+// The answer of a call that did no step.
+fn no_step(number: u32, s: State) -> Answer
+    ensures { λ r. ⌜ r ≡ answer number 0 s ⌝ }
+{
+    Answer {
+        number,
+        steps: 0,
+        state: s,
+    }
+}
+
 // Power-up: the power-on state. Refusals 1 to 3.
 pub fn power_up(image: &[u8]) -> Answer
     ensures { λ r. ⌜ r ≡ poweredUp (now (image .entry)) ⌝ }
 {
     let number = image::refusal(image);
-    Answer {
-        number,
-        steps: 0,
-        state: state::power_on(),
-    }
+    no_step(number, state::power_on())
 }
 
 // One frame, with the buffer that a read fills. Refusals 1 to 4.
@@ -101,19 +111,11 @@ pub fn frame(image: &[u8], s: State, frame: &[u8], output: &mut [u8]) -> Answer
 {
     let number = state::refusal(image, s);
     if number != 0 {
-        return Answer {
-            number,
-            steps: 0,
-            state: s,
-        };
+        return no_step(number, s);
     }
     let class = frames::class_of(frame);
     put_output(class, s, output);
-    Answer {
-        number: 0,
-        steps: 0,
-        state: state_after(class, image, s, frame),
-    }
+    no_step(DONE, state_after(class, image, s, frame))
 }
 
 // Whether the work goes on: a step of the quota is left, and a job runs.
@@ -138,7 +140,7 @@ fn work_steps(image: &mut [u8], s: State, quota: u32) -> Answer
         steps += 1;
     }
     Answer {
-        number: 0,
+        number: DONE,
         steps,
         state: t,
     }
@@ -148,13 +150,9 @@ fn work_steps(image: &mut [u8], s: State, quota: u32) -> Answer
 pub fn work(image: &mut [u8], s: State, quota: u32) -> Answer
     ensures { λ r. ⌜ (r ≡ afterWork (device (now (image .entry)) s) quota) × (now (image .exit) ≡ imageAfterWork (device (now (image .entry)) s) quota) ⌝ }
 {
-    let number = state::refusal(image, s);
-    if number != 0 {
-        return Answer {
-            number,
-            steps: 0,
-            state: s,
-        };
+    let refused = state::refusal(image, s);
+    if refused != 0 {
+        return no_step(refused, s);
     }
     work_steps(image, s, quota)
 }

@@ -42,10 +42,10 @@ pub extern "C" fn probe_work(
     ensures { λ r. ⌜ (r ≡ afterWork (device (now (image .entry)) (unpacked (now (state .entry)))) quota .number) × (now (state .exit) ≡ packed (afterWork (device (now (image .entry)) (unpacked (now (state .entry)))) quota .state)) × (now (steps .exit) ≡ afterWork (device (now (image .entry)) (unpacked (now (state .entry)))) quota .steps ∷ []) × (now (image .exit) ≡ imageAfterWork (device (now (image .entry)) (unpacked (now (state .entry)))) quota) ⌝ }
 {
     let s = packed::unpack(state);
-    let after = device::work(image, s, quota);
-    packed::pack(after.state, state);
-    *steps = [after.steps];
-    after.number
+    let worked = device::work(image, s, quota);
+    packed::pack(worked.state, state);
+    *steps = [worked.steps];
+    worked.number
 }
 
 // A state in and out, and nothing else: what the other entries cost beside their call.

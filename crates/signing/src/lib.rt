@@ -54,12 +54,12 @@ fn key_of(command: Command, s: State) -> [u8; 32]
             key_sent(frame)
         }
         Command::UpdateSessionKey => {
-            let root = job.root;
-            let made = job.made;
+            let in_use = job.root;
+            let new = job.made;
             if job.step < 4 {
-                return root;
+                return in_use;
             }
-            made
+            new
         }
         Command::IncrementCounter => {
             let key = state::session_key(s, job.counter);

@@ -6,7 +6,7 @@ use Rattle.device.proofs.power_up.Tie as tie
 
 returns : tie.Need-returns
 unfolding poweredUp
-returns c = rw (c .power-on .ensures, c .before .refusal .ensures)
+returns c = rw (← c .before .power-on .ensures, ← c .before .before .refusal .ensures) (c .no-step .ensures)
 
 pub power-up-spec : {M : Type 1} → statement M
-power-up-spec = tie.close (tie.spec (λ c κs. search needs) (λ c κs. search needs) returns)
+power-up-spec = tie.close (tie.spec (λ c κs. search needs) (λ c κs. search needs) (λ c κs. search needs) returns)

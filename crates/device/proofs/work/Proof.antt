@@ -9,9 +9,9 @@ use Rattle.device.proofs.work.Tie as tie
 returns : tie.Need-returns
 unfolding afterWork imageAfterWork pick
 returns c =
-    let n = c .before .refusal in
-    let refused = ne-eqb (n .result) 0 (c .if1 .taken) in
-    (rw (← n .ensures, refused), rw (← n .ensures, refused))
+    let n = c .before .before .refusal in
+    let refused = ne-eqb (n .result) 0 (c .before .if1 .taken) in
+    (rw (← n .ensures, refused) (c .no-step .ensures), rw (← n .ensures, refused))
 
 returns-2 : tie.Need-returns-2
 unfolding afterWork imageAfterWork pick
@@ -26,4 +26,5 @@ returns-2 c =
 pub work-spec : {M : Type 1} → statement M
 work-spec =
     tie.close
-    (tie.spec (λ c κs. search needs) (λ c. search needs) returns (λ c κs. search needs) (λ c. search needs) returns-2)
+    (tie.spec (λ c κs. search needs) (λ c κs. search needs) (λ c. search needs) returns (λ c κs. search needs)
+    (λ c. search needs) returns-2)
