@@ -1,15 +1,13 @@
 -- It ends: each step leaves less of a job. Assumes nothing.
-use Prim.Native.Nat.{ℕ, zero, suc, _+_, _-_, _<_, _≤_}
+use Prim.Native.Nat.{ℕ, _+_, _-_, _<_}
 use mathlib.Core.Path.{_≡_, refl}
-use mathlib.Core.Bool.{true, false}
+use mathlib.Core.Bool.{true}
 use mathlib.Core.List.{List}
 use native.Mathlib.Omega.{arith}
 use borrow.Author.Tests.{eqb-false}
-use lib.Dec.{eqb, ltb}
 use Rattle.words.specs.Choice.{pick}
 use Rattle.words.proofs.Choice.{either}
-use Rattle.image.specs.Slot.{slotOf}
-use Rattle.checks.specs.Jobs.{lengthOf, commandOf, signatureSteps}
+use Rattle.checks.specs.Jobs.{lengthOf, commandOf}
 use Rattle.checks.specs.declared.Command.{Command}
 use Rattle.checks.specs.declared.Command.the-variants.{WriteRootKey, UpdateSessionKey, IncrementCounter, RequestCounter}
 use Rattle.state.specs.declared.State.{State}
@@ -18,7 +16,7 @@ use Rattle.state.specs.Refusal.{isRunning}
 use Rattle.state.proofs.Running.{step-left}
 use Rattle.signing.specs.Hashed.{withBlock, hashed}
 use Rattle.steps.specs.Ending.{withKey, withReply, withStep, finishedBy, advanced}
-use Rattle.steps.specs.Deciding.{keptAfter, withKept, verdictOf, decided, hashStep}
+use Rattle.steps.specs.Deciding.{withKept, decided, hashStep}
 use Rattle.steps.specs.Step.{isHash, stepState}
 
 -- the steps of a job's kind that are not done

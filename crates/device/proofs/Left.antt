@@ -8,7 +8,6 @@ use borrow.Author.Tests.{ltb-false}
 use lib.Dec.{ltb}
 use Rattle.words.specs.Choice.{pick}
 use Rattle.words.proofs.Choice.{never}
-use Rattle.checks.specs.Jobs.{lengthOf}
 use Rattle.state.specs.Refusal.{isRunning}
 use Rattle.state.proofs.Running.{at-most-15, step-left}
 use Rattle.device.specs.Work.{Device, stepped, run, within, stepsLeft}

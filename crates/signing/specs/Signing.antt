@@ -4,10 +4,9 @@ use Prim.Native.Nat.{ℕ, _%_}
 use mathlib.Core.List.{List, _++_}
 use lib.Dec.{ltb, eqb}
 use Rattle.words.specs.Choice.{pick}
-use Rattle.words.specs.Words.{bytesOf, bytesOfAll}
+use Rattle.words.specs.Words.{bytesOf}
 use Rattle.hmac.specs.declared.Quarter.{Quarter}
 use Rattle.hmac.specs.declared.Quarter.the-variants.{KeyIpad, Message, KeyOpad, InnerDigest}
-use Rattle.hmac.specs.Quarters.{chainAfter}
 use Rattle.checks.specs.Layout.{field}
 use Rattle.checks.specs.declared.Command.{Command}
 use Rattle.checks.specs.declared.Command.the-variants.{WriteRootKey, UpdateSessionKey, IncrementCounter, RequestCounter}

@@ -1,6 +1,6 @@
 -- Document 01, "The counter image": the power-on state; and the one form of what is not there. Assumes nothing.
 use Prim.Native.Nat.{ℕ}
-use mathlib.Core.Bool.{Bool, true, false}
+use mathlib.Core.Bool.{false}
 use lib.ListN.{getD, replicate}
 use Rattle.frames.specs.declared.Reply.{Reply}
 use Rattle.checks.specs.declared.Kind.the-variants.{Nothing}

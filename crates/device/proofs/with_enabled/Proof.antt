@@ -1,5 +1,4 @@
 -- `with_enabled` meets its contract. Assumes nothing.
-use borrow.Author.Needs.{needs}
 use mathlib.Core.Path.{refl}
 use Rattle.device.specs.Frame.{withEnabled}
 use Rattle.device.proofs.with_enabled.Statement.{statement}

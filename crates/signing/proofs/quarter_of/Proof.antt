@@ -1,5 +1,4 @@
 -- `quarter_of` meets its contract. Assumes nothing.
-use borrow.Author.Needs.{needs}
 use borrow.Author.Tests.{eq-eqb, ne-eqb}
 use Rattle.words.specs.Choice.{pick}
 use Rattle.signing.specs.Signing.{quarterOf}

@@ -1,5 +1,4 @@
 -- `with_kept` meets its contract. Assumes nothing.
-use borrow.Author.Needs.{needs}
 use mathlib.Core.Path.{refl}
 use Rattle.steps.specs.Deciding.{withKept}
 use Rattle.steps.proofs.with_kept.Statement.{statement}

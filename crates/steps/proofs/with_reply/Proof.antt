@@ -1,5 +1,4 @@
 -- `with_reply` meets its contract. Assumes nothing.
-use borrow.Author.Needs.{needs}
 use mathlib.Core.Path.{refl}
 use Rattle.steps.specs.Ending.{withReply}
 use Rattle.steps.proofs.with_reply.Statement.{statement}

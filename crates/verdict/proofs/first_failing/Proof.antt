@@ -1,5 +1,4 @@
 -- `first_failing` meets its contract. Assumes nothing.
-use borrow.Author.Needs.{needs}
 use borrow.Author.Tests.{eq-eqb, ne-eqb}
 use Rattle.words.specs.Choice.{pick}
 use Rattle.verdict.proofs.first_failing.Statement.{statement}

@@ -1,5 +1,4 @@
 -- `increment_status` meets its contract. Assumes nothing.
-use borrow.Author.Needs.{needs}
 use borrow.Author.Tests.{eq-eqb, ne-eqb}
 use Rattle.words.specs.Choice.{pick}
 use Rattle.verdict.specs.Verdict.{incrementStatus}

@@ -1,0 +1,137 @@
+-- The hash steps of a job: after four of them the state holds the HMAC of its key and message. Assumes nothing.
+use Prim.Native.Nat.{ℕ, _≤_}
+use mathlib.Core.Path.{_≡_, refl, sym}
+use mathlib.Core.Bool.{true, false}
+use mathlib.Core.List.{List}
+use native.Mathlib.Omega.{arith}
+use lib.ListN.{length}
+use Rattle.words.specs.Choice.{pick}
+use Rattle.words.specs.Words.{bytesOf, bytesOfAll}
+use Rattle.words.proofs.Spread.{length-spread}
+use Rattle.sha256.proofs.Lengths.{length-block}
+use Rattle.hmac.specs.declared.Quarter.{Quarter}
+use Rattle.hmac.specs.declared.Quarter.the-variants.{KeyIpad, Message, KeyOpad, InnerDigest}
+use Rattle.hmac.specs.Hmac.{HMAC}
+use Rattle.hmac.specs.Quarters.{chainAfter}
+use Rattle.hmac.proofs.FourBlocks.{four-blocks}
+use Rattle.image.specs.Slot.{slotOf}
+use Rattle.checks.specs.Layout.{field}
+use Rattle.checks.specs.Jobs.{commandOf}
+use Rattle.checks.specs.declared.Kind.{Kind}
+use Rattle.checks.specs.declared.Kind.the-variants.{RootKeyAndCounter, RootKey, CounterOnly, Nothing, SessionKey, Increment, Request}
+use Rattle.state.specs.declared.Key.{Key}
+use Rattle.state.specs.declared.State.{State}
+use Rattle.state.specs.Parts.{noReply}
+use Rattle.state.specs.Refusal.{isRunning}
+use Rattle.signing.specs.Signing.{quarterOf, keyOf, messageOf}
+use Rattle.signing.specs.Hashed.{blockDone, innerAfter, withBlock, hashed}
+use Rattle.steps.specs.Ending.{withStep, advanced}
+use Rattle.steps.specs.Deciding.{decided, hashStep}
+use Rattle.steps.specs.Step.{stepState, stepImage}
+use Rattle.device.specs.Work.{stepped, run}
+use Rattle.device.specs.Calls.{device}
+
+-- a state with a job of a taken frame
+abbrev pub busy : Kind → List Key → ℕ → List ℕ → List ℕ → ℕ → List ℕ → List ℕ → List ℕ → ℕ → State
+busy kind keys counter frame root step chain made inner kept =
+    record {
+      status = 0x01;
+      keys = keys;
+      reply = noReply;
+      enabled = false;
+      chain = chain;
+      job =
+          record {
+            there = true;
+            kind = kind;
+            counter = counter;
+            step = step;
+            frame = frame;
+            root = root;
+            made = made;
+            inner = inner;
+            kept = kept;
+          };
+    }
+
+-- the chaining words of an HMAC's second and fourth block
+unfoldable pub second : List ℕ → List ℕ → List ℕ → List ℕ → List ℕ
+second key message chain inner = chainAfter Message key message (chainAfter KeyIpad key message chain inner) inner
+
+unfoldable pub fourth : List ℕ → List ℕ → List ℕ → List ℕ → List ℕ
+fourth key message chain inner =
+    chainAfter InnerDigest key message (chainAfter KeyOpad key message (second key message chain inner) (second key message chain inner))
+    (second key message chain inner)
+
+-- after the fourth block, the state holds the HMAC
+pub fourth-hmac :
+    (key message chain inner : List ℕ) → length key ≡ 32 → length message ≤ 55 → bytesOfAll (fourth key message chain inner) ≡ HMAC key message
+unfolding second fourth
+fourth-hmac key message chain inner k m = sym (four-blocks key message _ _ _ _ _ k m)
+
+-- a digest has 32 bytes
+length-chain : (q : Quarter) (key message chain inner : List ℕ) → length (chainAfter q key message chain inner) ≡ 8
+unfolding chainAfter
+length-chain q key message chain inner = length-block _ _
+
+pub length-fourth : (key message chain inner : List ℕ) → length (bytesOfAll (fourth key message chain inner)) ≡ 32
+unfolding fourth
+length-fourth key message chain inner =
+    let eight : length (fourth key message chain inner) ≡ 8 = length-chain InnerDigest key message _ _ in
+    omega (arith, length-spread bytesOf 4 (λ w. refl) (fourth key message chain inner), eight)
+
+-- the first four steps of a job, of a key and a message that stay the same
+module _ (image : List ℕ) (keys : List Key) (counter : ℕ) (frame root chain made inner : List ℕ) (kept : ℕ) where
+  abbrev pub begun : Kind → State
+  begun kind = busy kind keys counter frame root 0 chain made inner kept
+
+  abbrev pub keyAt : Kind → List ℕ
+  keyAt kind = keyOf (commandOf kind) (begun kind)
+
+  abbrev pub messageAt : Kind → List ℕ
+  messageAt kind = messageOf (commandOf kind) 0 frame kept
+
+  abbrev pub secondAt : Kind → List ℕ
+  secondAt kind = second (keyAt kind) (messageAt kind) chain inner
+
+  abbrev pub fourthAt : Kind → List ℕ
+  fourthAt kind = fourth (keyAt kind) (messageAt kind) chain inner
+
+  -- the state with the digest to be checked
+  abbrev pub hashedAt : Kind → State
+  hashedAt kind = busy kind keys counter frame root 3 (fourthAt kind) made (secondAt kind) kept
+
+  abbrev pub checkedAt : Kind → State
+  checkedAt kind = decided (hashedAt kind) (slotOf image counter .value)
+
+  -- a session key job has made its key after four steps, the others are checked
+  abbrev pub afterFour : Kind → State
+  afterFour RootKeyAndCounter = checkedAt RootKeyAndCounter
+  afterFour RootKey = checkedAt RootKey
+  afterFour CounterOnly = checkedAt CounterOnly
+  afterFour Nothing = checkedAt Nothing
+  afterFour SessionKey =
+      busy SessionKey keys counter frame root 4 (fourthAt SessionKey) (bytesOfAll (fourthAt SessionKey)) (secondAt SessionKey) kept
+  afterFour Increment = checkedAt Increment
+  afterFour Request = checkedAt Request
+
+  pub four-steps : (kind : Kind) → run 4 (device image (begun kind)) ≡ device image (afterFour kind)
+  unfolding run stepped stepState stepImage isRunning pick hashStep hashed withBlock blockDone quarterOf innerAfter advanced withStep second fourth
+  four-steps RootKeyAndCounter = refl
+  four-steps RootKey = refl
+  four-steps CounterOnly = refl
+  four-steps Nothing = refl
+  four-steps SessionKey = refl
+  four-steps Increment = refl
+  four-steps Request = refl
+
+-- the four steps of a session key job that check the frame under the new key
+pub four-more-steps :
+    (image : List ℕ) (keys : List Key) (counter : ℕ) (frame root chain made inner : List ℕ) (kept : ℕ) →
+    run 4 (device image (busy SessionKey keys counter frame root 4 chain made inner kept)) ≡
+    device image
+    (decided
+    (busy SessionKey keys counter frame root 7 (fourth made (field 0 8 frame) chain inner) made (second made (field 0 8 frame) chain inner) kept)
+    (slotOf image counter .value))
+unfolding run stepped stepState stepImage isRunning pick hashStep hashed withBlock blockDone quarterOf innerAfter advanced withStep second fourth
+four-more-steps image keys counter frame root chain made inner kept = refl

@@ -1,0 +1,29 @@
+-- The laws of several steps. Assumes nothing.
+use Prim.Native.Nat.{ℕ, zero, suc, _+_}
+use mathlib.Core.Path.{_≡_, refl, ap}
+use mathlib.Core.Bool.{false}
+use native.Mathlib.Omega.{arith}
+use Rattle.words.specs.Choice.{pick}
+use Rattle.state.specs.Refusal.{isRunning}
+use Rattle.steps.specs.Step.{stepState, stepImage}
+use Rattle.device.specs.Work.{Device, stepped, run}
+
+-- a device in which no job runs stays as it is
+pub stepped-idle : (d : Device) → isRunning (d .state) ≡ false → stepped d ≡ d
+unfolding stepped stepState stepImage pick
+stepped-idle d e = rw e
+
+pub run-idle : (n : ℕ) (d : Device) → isRunning (d .state) ≡ false → run n d ≡ d
+unfolding run
+run-idle zero d e = refl
+run-idle (suc n) d e = rw (run-idle n d e) (stepped-idle d e)
+
+-- n steps, then m more
+pub run-add : (m n : ℕ) (d : Device) → run (m + n) d ≡ run m (run n d)
+unfolding run
+run-add zero n d =
+    let e : 0 + n ≡ n = omega arith in
+    rw e
+run-add (suc m) n d =
+    let e : suc m + n ≡ suc (m + n) = omega arith in
+    rw e (ap stepped (run-add m n d))

@@ -1,0 +1,208 @@
+-- Running a job to its end gives the whole-frame result. Assumes nothing.
+use Prim.Native.Nat.{ℕ, _+_, _≤_}
+use mathlib.Core.Path.{_≡_, refl, ap, _∙_}
+use mathlib.Core.Bool.{Bool, true, false}
+use mathlib.Core.List.{List, _++_}
+use native.Mathlib.Omega.{arith}
+use lib.Dec.{eqb}
+use lib.ListN.{length, getD, replicate, length-append, length-replicate}
+use Rattle.words.specs.Choice.{pick}
+use Rattle.words.specs.Words.{bytesOf, bytesOfAll}
+use Rattle.words.proofs.Table.{length-table}
+use Rattle.words.proofs.Choice.{either}
+use Rattle.hmac.specs.Hmac.{HMAC}
+use Rattle.image.specs.Slot.{rootKey}
+use Rattle.checks.specs.Layout.{counterOf, field}
+use Rattle.checks.specs.Jobs.{commandOf}
+use Rattle.checks.specs.declared.Kind.{Kind}
+use Rattle.checks.specs.declared.Kind.the-variants.{RootKeyAndCounter, RootKey, CounterOnly, Nothing, SessionKey, Increment, Request}
+use Rattle.verdict.specs.Verdict.{verdict}
+use Rattle.state.specs.declared.State.{State}
+use Rattle.state.specs.Refusal.{isRunning}
+use Rattle.steps.specs.Deciding.{withKept}
+use Rattle.arrival.specs.Arrival.{frameKept, statusOnArrival, jobOf, taken, arrived}
+use Rattle.device.specs.Work.{Device, run}
+use Rattle.device.specs.Calls.{device}
+use Rattle.rules.specs.Whole.{outcome, valueIn, keyThere, newKey, signature, lastChecks, refusedWith, allStored, carriedOut, kindIn, allChecks, whole}
+use Rattle.rules.proofs.Runs.{run-idle, run-add}
+use Rattle.rules.proofs.Hashing.{busy, fourth, fourth-hmac, length-fourth, begun, fourthAt, secondAt, afterFour, four-steps, four-more-steps}
+use Rattle.rules.proofs.Storing.{stored-root-and-counter, stored-root, stored-counter, stored-nothing, stored-increment, stored-request, stored-session}
+use Rattle.rules.proofs.Ended.{ended}
+
+-- a message of a frame's field fits one block
+short : (at n : ℕ) (s : List ℕ) → n ≤ 55 → length (field at n s) ≤ 55
+short at n s h = rw (length-table (λ i. getD s (at + i) 0) n) h
+
+length-root : (image : List ℕ) (counter : ℕ) → length (rootKey image counter) ≡ 32
+unfolding rootKey
+length-root image counter =
+    either (λ (key : List ℕ). length key ≡ 32) _ _ _ (λ e. length-table _ 32) (λ e. length-replicate {A = ℕ} 32 255)
+
+length-signed : (tag : List ℕ) (value : ℕ) → length (field 4 12 tag ++ bytesOf value) ≤ 55
+length-signed tag value =
+    omega (arith, length-append (field 4 12 tag) (bytesOf value), length-table (λ i. getD tag (4 + i) 0) 12)
+
+module _ (d : Device) (frame : List ℕ) (formed : length (keyThere d frame) ≡ 32) where
+  abbrev sent : List ℕ
+  sent = frameKept frame
+
+  abbrev root : List ℕ
+  root = rootKey (d .image) (counterOf frame)
+
+  abbrev start : Kind → State
+  start kind = begun (d .image) (d .state .keys) (counterOf frame) sent root (d .state .chain) (replicate 32 0) (replicate 8 0) 0 kind
+
+  abbrev digest : Kind → List ℕ
+  digest kind = fourthAt (d .image) (d .state .keys) (counterOf frame) sent root (d .state .chain) (replicate 32 0) (replicate 8 0) 0 kind
+
+  abbrev inner : Kind → List ℕ
+  inner kind = secondAt (d .image) (d .state .keys) (counterOf frame) sent root (d .state .chain) (replicate 32 0) (replicate 8 0) 0 kind
+
+  -- the whole-frame result of a kind of job
+  abbrev Whole : Kind → Type 0
+  Whole kind =
+      outcome (run 15 (device (d .image) (start kind))) ≡
+      pick (eqb (lastChecks (commandOf kind) d frame) 0) (carriedOut kind d frame) (refusedWith (lastChecks (commandOf kind) d frame) d)
+
+  root-digest : bytesOfAll (digest Nothing) ≡ signature (commandOf Nothing) d frame
+  root-digest = fourth-hmac (field 4 32 sent) (field 0 4 sent) _ _ (length-table _ 32) (short 0 4 sent (omega arith))
+
+  increment-digest : bytesOfAll (digest Increment) ≡ signature (commandOf Increment) d frame
+  increment-digest = fourth-hmac (keyThere d frame) (field 0 8 sent) _ _ formed (short 0 8 sent (omega arith))
+
+  request-digest : bytesOfAll (digest Request) ≡ signature (commandOf Request) d frame
+  unfolding pick
+  request-digest = fourth-hmac (keyThere d frame) (field 0 16 sent) _ _ formed (short 0 16 sent (omega arith))
+
+  key-made : bytesOfAll (digest SessionKey) ≡ newKey d frame
+  unfolding pick
+  key-made = fourth-hmac root (field 4 4 sent) _ _ (length-root (d .image) (counterOf frame)) (short 4 4 sent (omega arith))
+
+  -- the verdict on a digest is the verdict on the HMAC that it is
+  same-verdict :
+      (kind : Kind) (digest : List ℕ) → digest ≡ signature (commandOf kind) d frame →
+      verdict (commandOf kind) sent digest (valueIn d frame) ≡ lastChecks (commandOf kind) d frame
+  unfolding lastChecks
+  same-verdict kind digest e = ap (λ (g : List ℕ). verdict (commandOf kind) sent g (valueIn d frame)) e
+
+  -- the job's steps: four, then eleven
+  fifteen : (kind : Kind) → run 15 (device (d .image) (start kind)) ≡ run 11 (run 4 (device (d .image) (start kind)))
+  fifteen kind = run-add 11 4 (device (d .image) (start kind))
+
+  four :
+      (kind : Kind) →
+      run 4 (device (d .image) (start kind)) ≡
+      device (d .image)
+      (afterFour (d .image) (d .state .keys) (counterOf frame) sent root (d .state .chain) (replicate 32 0) (replicate 8 0) 0 kind)
+  four kind = four-steps (d .image) (d .state .keys) (counterOf frame) sent root (d .state .chain) (replicate 32 0) (replicate 8 0) 0 kind
+
+  whole-nothing : Whole Nothing
+  unfolding carriedOut refusedWith withKept
+  whole-nothing =
+      rw (fifteen Nothing, four Nothing)
+      (ended 11 (d .image) _ (valueIn d frame) _ _ (same-verdict Nothing _ root-digest) (λ e. stored-nothing _ _ _ _ _ _ _ _ _))
+
+  whole-counter : Whole CounterOnly
+  unfolding carriedOut refusedWith withKept
+  whole-counter =
+      rw (fifteen CounterOnly, four CounterOnly)
+      (ended 11 (d .image) _ (valueIn d frame) _ _ (same-verdict CounterOnly _ root-digest) (λ e. stored-counter _ _ _ _ _ _ _ _ _))
+
+  whole-root : Whole RootKey
+  unfolding carriedOut refusedWith withKept
+  whole-root =
+      rw (fifteen RootKey, four RootKey)
+      (ended 11 (d .image) _ (valueIn d frame) _ _ (same-verdict RootKey _ root-digest) (λ e. stored-root _ _ _ _ _ _ _ _ _))
+
+  whole-root-and-counter : Whole RootKeyAndCounter
+  unfolding carriedOut refusedWith withKept
+  whole-root-and-counter =
+      rw (fifteen RootKeyAndCounter, four RootKeyAndCounter)
+      (ended 11 (d .image) _ (valueIn d frame) _ _ (same-verdict RootKeyAndCounter _ root-digest)
+      (λ e. stored-root-and-counter _ _ _ _ _ _ _ _ _))
+
+  whole-increment : Whole Increment
+  unfolding carriedOut refusedWith withKept
+  whole-increment =
+      rw (fifteen Increment, four Increment)
+      (ended 11 (d .image) _ (valueIn d frame) _ _ (same-verdict Increment _ increment-digest) (λ e. stored-increment _ _ _ _ _ _ _ _ _))
+
+  reply-signed :
+      (chain inner : List ℕ) →
+      bytesOfAll (fourth (keyThere d frame) (field 4 12 sent ++ bytesOf (valueIn d frame)) chain inner) ≡
+      HMAC (keyThere d frame) (field 4 12 sent ++ bytesOf (valueIn d frame))
+  reply-signed chain inner = fourth-hmac (keyThere d frame) _ chain inner formed (length-signed sent (valueIn d frame))
+
+  whole-request : Whole Request
+  unfolding carriedOut refusedWith withKept
+  whole-request =
+      rw (fifteen Request, four Request)
+      (ended 11 (d .image) _ (valueIn d frame) _ _ (same-verdict Request _ request-digest)
+      (λ e. rw (← reply-signed (digest Request) (inner Request)) (stored-request _ _ _ _ _ _ _ _ _)))
+
+  -- a session key job from its fifth step on, with the key that it made
+  session-ended :
+      (chain inner made : List ℕ) → length made ≡ 32 → made ≡ newKey d frame →
+      outcome (run 11 (device (d .image) (busy SessionKey (d .state .keys) (counterOf frame) sent root 4 chain made inner 0))) ≡
+      pick (eqb (lastChecks (commandOf SessionKey) d frame) 0) (carriedOut SessionKey d frame)
+      (refusedWith (lastChecks (commandOf SessionKey) d frame) d)
+  unfolding carriedOut refusedWith withKept allStored
+  session-ended chain inner made size e =
+      let signed = fourth-hmac made (field 0 8 sent) chain inner size (short 0 8 sent (omega arith)) in
+      rw (
+        run-add 7 4 (device (d .image) (busy SessionKey (d .state .keys) (counterOf frame) sent root 4 chain made inner 0)),
+        four-more-steps (d .image) (d .state .keys) (counterOf frame) sent root chain made inner 0,
+      )
+      (ended 7 (d .image) _ (valueIn d frame) _ _
+      (same-verdict SessionKey _ (signed ∙ ap (λ (key : List ℕ). HMAC key (field 0 8 sent)) e))
+      (λ _. rw (← e) (stored-session _ _ _ _ _ _ _ _ _)))
+
+  whole-session : Whole SessionKey
+  whole-session =
+      rw (fifteen SessionKey, four SessionKey)
+      (session-ended (digest SessionKey) (inner SessionKey) (bytesOfAll (digest SessionKey)) (length-fourth _ _ _ _) key-made)
+
+  whole-kind : (kind : Kind) → Whole kind
+  whole-kind RootKeyAndCounter = whole-root-and-counter
+  whole-kind RootKey = whole-root
+  whole-kind CounterOnly = whole-counter
+  whole-kind Nothing = whole-nothing
+  whole-kind SessionKey = whole-session
+  whole-kind Increment = whole-increment
+  whole-kind Request = whole-request
+
+-- a frame that fails on arrival starts no job
+not-taken :
+    (d : Device) (frame : List ℕ) (status : ℕ) → d .state .job .there ≡ false →
+    run 15 (device (d .image) (taken (d .state) status (d .state .job))) ≡ device (d .image) (taken (d .state) status (d .state .job))
+unfolding isRunning taken pick
+not-taken d frame status idle = run-idle 15 _ (rw idle)
+
+arrived-fails :
+    (image : List ℕ) (s : State) (frame : List ℕ) → eqb (statusOnArrival image s frame) 0 ≡ false →
+    arrived image s frame ≡ taken s (statusOnArrival image s frame) (s .job)
+unfolding arrived pick
+arrived-fails image s frame e = rw e
+
+arrived-starts :
+    (image : List ℕ) (s : State) (frame : List ℕ) → eqb (statusOnArrival image s frame) 0 ≡ true →
+    arrived image s frame ≡ taken s 0x01 (jobOf image frame)
+unfolding arrived pick
+arrived-starts image s frame e = rw e
+
+runs-by :
+    (d : Device) (frame : List ℕ) → d .state .job .there ≡ false → length (keyThere d frame) ≡ 32 →
+    (b : Bool) → eqb (statusOnArrival (d .image) (d .state) frame) 0 ≡ b →
+    outcome (run 15 (device (d .image) (arrived (d .image) (d .state) frame))) ≡ whole d frame
+unfolding whole allChecks taken jobOf pick refusedWith
+runs-by d frame idle formed true e =
+    rw (arrived-starts (d .image) (d .state) frame e, e) (whole-kind d frame formed (kindIn d frame))
+runs-by d frame idle formed false e =
+    rw (arrived-fails (d .image) (d .state) frame e, not-taken d frame (statusOnArrival (d .image) (d .state) frame) idle, e, e)
+
+-- A command frame that finds the device idle, and the fifteen steps after it at most, come to what the page says. A session key
+-- has 32 bytes in every state of the type.
+pub runs-whole :
+    (d : Device) (frame : List ℕ) → d .state .job .there ≡ false → length (keyThere d frame) ≡ 32 →
+    outcome (run 15 (device (d .image) (arrived (d .image) (d .state) frame))) ≡ whole d frame
+runs-whole d frame idle formed = runs-by d frame idle formed _ refl

@@ -1,0 +1,2 @@
+-- The whole-frame rules, a page.
+pub mod Whole
