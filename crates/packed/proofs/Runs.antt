@@ -1,24 +1,16 @@
 -- Bytes stored one run behind the other are stored as one run; a run that is as long as the buffer is what the buffer becomes.
 -- Assumes nothing.
-use Prim.Native.Nat.{ℕ, suc, _+_, _*_, _≤_, _<_}
+use Prim.Native.Nat.{ℕ, _+_, _*_, _≤_, _<_}
 use mathlib.Core.Path.{_≡_, refl, _∙_}
-use mathlib.Core.List.{List, [], _∷_, _++_, append-nil}
+use mathlib.Core.List.{List, _∷_, _++_, append-nil}
 use native.Mathlib.Numerals.{add-one}
 use native.Mathlib.Omega.{arith}
 use lib.ListN.{length, getD, take, set, length-append, drop-of-length-le}
-use lib.Seq.{sets, sets-eq, take-suc, length-take-le}
+use lib.Seq.{sets-eq}
 use Rattle.words.specs.Words.{bytesOf, bytesOfAll}
+use Rattle.words.proofs.Runs.{sets-append}
 use Rattle.words.proofs.Spread.{spread-more}
 use Rattle.packed.specs.Stored.{Stored}
-
--- the law behind all others: the next run is stored where the first one ends
-sets-append : (l : List ℕ) (i n : ℕ) (v w : List ℕ) → length v ≡ n → sets (sets l i v) (i + n) w ≡ sets l i (v ++ w)
-sets-append l i n [] w e =
-    let here : i + n ≡ i = omega arith in
-    rw here
-sets-append l i n (a ∷ v) w e =
-    let there : i + n ≡ suc i + length v = omega arith in
-    rw there (sets-append _ (suc i) (length v) v w refl)
 
 -- a run, then the next
 pub andThen :
@@ -35,12 +27,6 @@ stored-all {l} {k} {v} {n} a e =
     let fits : 0 + length v ≤ length l = omega (arith, a .count) in
     let past : length l ≤ 0 + length v = omega (arith, a .count) in
     a .stores ∙ sets-eq v l 0 fits ∙ rw (drop-of-length-le l past) (append-nil v)
-
--- a run, one byte longer
-pub run-more :
-    (l v : List ℕ) (at i : ℕ) → i < length v → set (sets l at (take i v)) (at + i) (getD v i 0) ≡ sets l at (take (i + 1) v)
-run-more l v at i h =
-    rw (add-one i, take-suc v i 0 h) (sets-append l at i (take i v) (getD v i 0 ∷ []) (length-take-le i v (omega arith)))
 
 -- a run of words, one word longer
 pub words-more :

@@ -6,3 +6,4 @@ pub mod Choice
 pub mod Filling
 pub mod Inside
 pub mod Table
+pub mod Runs

@@ -5,7 +5,7 @@ use native.Mathlib.Omega.{arith}
 use mathlib.Core.Path.{_≡_, refl, _∙_}
 use lib.ListN.{length, take}
 use lib.Seq.{sets, take-length}
-use Rattle.packed.proofs.Runs.{run-more}
+use Rattle.words.proofs.Runs.{run-more}
 use Rattle.packed.proofs.storing.put.Statement.{statement}
 use Rattle.packed.proofs.storing.put.Tie as tie
 

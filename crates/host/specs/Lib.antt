@@ -1,0 +1,3 @@
+-- The host end: the frames that it builds, and what it reads in a reply.
+pub mod Frames
+pub mod Building

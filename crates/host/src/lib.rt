@@ -1,0 +1,133 @@
+// The host end: building the four OP1 frames, on numbers and byte slices.
+//
+// Contracts cite specs/. A refused call leaves the output as found; a built frame fills its front, and the rest stays.
+ghost use mathlib.Core.Path.{_≡_};
+ghost use Prim.Native.Nat.{_+_, _≤_};
+ghost use mathlib.Core.List.{_++_};
+ghost use lib.ListN.{length};
+ghost use lib.Seq.{sets};
+ghost use Rattle.hmac.specs.Hmac.{HMAC};
+ghost use Rattle.host.specs.Frames.{head, signedBy, rootKeyFrame, sessionKeyFrame, incrementFrame, requestFrame};
+ghost use Rattle.host.specs.Building.{buildRefusal, withFront, built};
+
+// Refusals 5, 6 and 7, in this order.
+fn build_refusal(
+    counter: u32,
+    key: usize,
+    data: usize,
+    data_needed: usize,
+    room: usize,
+    needed: usize,
+) -> u32
+    ensures { λ r. ⌜ r ≡ buildRefusal counter key «data» «data_needed» room needed ⌝ }
+{
+    if 3 < counter {
+        return 5;
+    }
+    if key != 32 {
+        return 6;
+    }
+    if data != data_needed {
+        return 6;
+    }
+    if room < needed {
+        return 7;
+    }
+    0
+}
+
+// Stores bytes from a place on.
+fn put(bytes: &[u8], at: usize, out: &mut [u8])
+    requires { ⌜ at + length (now bytes) ≤ length (now out) ⌝ }
+    ensures { λ _. ⌜ now (out .exit) ≡ sets (now (out .entry)) at (now (bytes .entry)) ⌝ }
+{
+    let mut i = 0;
+    while i < bytes.len() {
+        out[at + i] = bytes[i];
+        i += 1;
+    }
+}
+
+// The HMAC of a message under a key; both have the right length.
+fn signature(key: &[u8], message: &[u8]) -> [u8; 32]
+    requires { ⌜ (length (now key) ≡ 32) × (length (now message) ≤ 55) ⌝ }
+    ensures { λ r. ⌜ r ≡ HMAC (now (key .entry)) (now (message .entry)) ⌝ }
+{
+    let signed = hmac::hmac(key, message);
+    let digest = signed.digest;
+    digest
+}
+
+// Fills the front of the output with a frame of head, data and their signature.
+fn put_signed(key: &[u8], frame_type: u8, counter: u8, data: &[u8], out: &mut [u8])
+    requires { ⌜ (length (now key) ≡ 32) × (length (now «data») ≤ 12) × (length (now «data») + 36 ≤ length (now out)) ⌝ }
+    ensures { λ _. ⌜ now (out .exit) ≡ withFront (signedBy (now (key .entry)) (head «frame_type» counter ++ now («data» .entry))) (now (out .entry)) ⌝ }
+{
+    let front = [0x9B, frame_type, counter, 0];
+    let n = 4 + data.len();
+    put(&front, 0, out);
+    put(data, 4, out);
+    let signed = signature(key, &out[0..n]);
+    put(&signed, n, out);
+}
+
+// Builds an increment frame, type 02, of the counter data, under the session key.
+pub fn build_increment(counter: u32, key: &[u8], value: &[u8], out: &mut [u8]) -> u32
+    ensures { λ r. ⌜ (r ≡ buildRefusal counter (length (now (key .entry))) (length (now (value .entry))) 4 (length (now (out .entry))) 40) × (now (out .exit) ≡ built (buildRefusal counter (length (now (key .entry))) (length (now (value .entry))) 4 (length (now (out .entry))) 40) (incrementFrame counter (now (key .entry)) (now (value .entry))) (now (out .entry))) ⌝ }
+{
+    let number = build_refusal(counter, key.len(), value.len(), 4, out.len(), 40);
+    if number != 0 {
+        return number;
+    }
+    put_signed(key, 2, counter as u8, value, out);
+    0
+}
+
+// Builds a request frame, type 03, of a tag, under the session key.
+pub fn build_request(counter: u32, key: &[u8], tag: &[u8], out: &mut [u8]) -> u32
+    ensures { λ r. ⌜ (r ≡ buildRefusal counter (length (now (key .entry))) (length (now (tag .entry))) 12 (length (now (out .entry))) 48) × (now (out .exit) ≡ built (buildRefusal counter (length (now (key .entry))) (length (now (tag .entry))) 12 (length (now (out .entry))) 48) (requestFrame counter (now (key .entry)) (now (tag .entry))) (now (out .entry))) ⌝ }
+{
+    let number = build_refusal(counter, key.len(), tag.len(), 12, out.len(), 48);
+    if number != 0 {
+        return number;
+    }
+    put_signed(key, 3, counter as u8, tag, out);
+    0
+}
+
+// Builds a session key frame, type 01, of the key data: the root key gives the new session key, which signs it.
+pub fn build_session_key(counter: u32, root: &[u8], key_data: &[u8], out: &mut [u8]) -> u32
+    ensures { λ r. ⌜ (r ≡ buildRefusal counter (length (now (root .entry))) (length (now («key_data» .entry))) 4 (length (now (out .entry))) 40) × (now (out .exit) ≡ built (buildRefusal counter (length (now (root .entry))) (length (now («key_data» .entry))) 4 (length (now (out .entry))) 40) (sessionKeyFrame counter (now (root .entry)) (now («key_data» .entry))) (now (out .entry))) ⌝ }
+{
+    let number = build_refusal(counter, root.len(), key_data.len(), 4, out.len(), 40);
+    if number != 0 {
+        return number;
+    }
+    let key = signature(root, key_data);
+    put_signed(&key, 1, counter as u8, key_data, out);
+    0
+}
+
+// Fills the front of the output with a root key frame.
+fn put_root(counter: u8, key: &[u8], out: &mut [u8])
+    requires { ⌜ (length (now key) ≡ 32) × (64 ≤ length (now out)) ⌝ }
+    ensures { λ _. ⌜ now (out .exit) ≡ withFront (rootKeyFrame counter (now (key .entry))) (now (out .entry)) ⌝ }
+{
+    let front = [0x9B, 0, counter, 0];
+    let signed = signature(key, &front);
+    put(&front, 0, out);
+    put(key, 4, out);
+    put(&signed[4..32], 36, out);
+}
+
+// Builds a root key frame, type 00: the key sent, and the last 28 bytes of its signature.
+pub fn build_root_key(counter: u32, key: &[u8], out: &mut [u8]) -> u32
+    ensures { λ r. ⌜ (r ≡ buildRefusal counter (length (now (key .entry))) 0 0 (length (now (out .entry))) 64) × (now (out .exit) ≡ built (buildRefusal counter (length (now (key .entry))) 0 0 (length (now (out .entry))) 64) (rootKeyFrame counter (now (key .entry))) (now (out .entry))) ⌝ }
+{
+    let number = build_refusal(counter, key.len(), 0, 0, out.len(), 64);
+    if number != 0 {
+        return number;
+    }
+    put_root(counter as u8, key, out);
+    0
+}
