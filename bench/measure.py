@@ -6,30 +6,16 @@ Writes target/bench/results.json."""
 
 import json
 import os
-import shutil
-import subprocess
 import sys
 
 from contestants import CONTESTANTS, FOLDER, WORK
+from counter import EMULATOR, output, per_call
 
-# Two runs whose numbers of calls are written with as many digits differ in the calls alone.
-FEWER, MORE = 100, 200
 CHECKED_CALLS = 1000
 ROUNDS = 41
 TIMED_CALLS = {"block": 20000, "hmac": 5000}
 
-EMULATOR = sys.argv[1:]
 LIBRARY = CONTESTANTS[0]
-
-
-def output(command, settings, given=None):
-    """What an x86-64 program prints, on this machine or under the emulator."""
-    done = subprocess.run(
-        EMULATOR + command, env=settings, input=given, stdout=subprocess.PIPE, text=True, check=False
-    )
-    if done.returncode != 0:
-        sys.exit(f"bench: {' '.join(command)} ended with status {done.returncode}")
-    return done.stdout
 
 
 def results_of(contestant, requests):
@@ -54,25 +40,11 @@ def check(contestants):
     print(f"check  {len(contestants)} contestants agree on {inputs} random inputs", flush=True)
 
 
-def total(contestant, what, n):
-    """The instructions of a whole run. The environment is empty: a program's start reads it."""
-    counter = [shutil.which("qemu-x86_64"), "-plugin", f"{FOLDER}/count.so"]
-    done = subprocess.run(
-        counter + contestant.command(what, n),
-        env=contestant.settings, capture_output=True, text=True, check=False,
-    )
-    lines = [line for line in done.stderr.splitlines() if line.startswith("instructions ")]
-    if done.returncode != 0 or len(lines) != 1:
-        sys.exit(f"bench: {contestant.title} could not be counted: {done.stderr.strip()}")
-    return int(lines[0].split()[1])
-
-
 def count(contestant, what):
-    """The instructions a call, counted twice: a count that does not repeat is no count."""
-    counted = [total(contestant, what, MORE) - total(contestant, what, FEWER) for _ in range(2)]
-    if counted[0] != counted[1]:
-        sys.exit(f"bench: {contestant.title}, {what}: counted {counted[0]}, then {counted[1]}")
-    return counted[0] / (MORE - FEWER)
+    """The instructions a call."""
+    return per_call(
+        f"{contestant.title}, {what}", lambda n: contestant.command(what, n), contestant.settings
+    )
 
 
 def count_all(contestants):

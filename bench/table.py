@@ -1,43 +1,25 @@
 """Makes the benchmark's tables from what was measured.
 
-   table.py                    prints them and writes target/bench/table.md
-   table.py --write DOCUMENT   and replaces what stands between the document's two marks
+   table.py                    prints them and writes target/bench/hash.md and device.md
+   table.py --write DOCUMENT   and replaces what stands between the document's marks
    table.py --marks DOCUMENT   only sees that the marks are there"""
 
 import json
 import sys
-from dataclasses import dataclass, field
 from statistics import median
-from textwrap import fill
 
+import device_table
 from contestants import CONTESTANTS, FOLDER, LIBRARY, WORK
+from document import Table, facts, number, plain, read, split_at_marks, text_of, write_between_marks
 
-BEGIN, END = "<!-- bench:begin -->", "<!-- bench:end -->"
+HASH_MARK, DEVICE_MARK = "bench", "device"
+SAME_RUN = "Made in the same run as the tables of the hash."
 
 # The targets of the project, a block and a HMAC: what is to be reached, and what is aimed for.
 TO_REACH = {"block": 3600, "hmac": 14600}
 AIM = {"block": 3300, "hmac": 13300}
 
-WIDTH = 100  # of the terminal
 COMPARED = ["", "block", "to the library", "HMAC", "to the library"]
-
-
-@dataclass
-class Table:
-    caption: str
-    heading: list
-    rows: list
-    notes: list = field(default_factory=list)
-
-
-def read(name):
-    with open(f"{FOLDER}/{name}", encoding="utf-8") as file:
-        return file.read()
-
-
-def number(value):
-    """Whole, with thousands: only the second program's printing makes its counts fractions."""
-    return f"{value:,.0f}"
 
 
 def rows_of(values):
@@ -113,65 +95,36 @@ def size_table(results):
     return Table(caption, heading, rows)
 
 
-def plain(table):
-    """Columns for the terminal; the first is words, the others are numbers."""
-    lines = [table.heading] + table.rows if table.rows else []
-    widths = [max(map(len, column)) for column in zip(*lines)]
-    text = [fill(table.caption, WIDTH), ""]
-    for row in lines:
-        cells = [cell.rjust(width) for cell, width in zip(row[1:], widths[1:])]
-        text.append("  ".join([row[0].ljust(widths[0])] + cells).rstrip())
-    if table.notes:
-        text += [""] + [fill(note, WIDTH) for note in table.notes]
-    return "\n".join(text).rstrip()
+def hash_tables():
+    results = json.loads(read("results.json"))
+    return [count_table(results), time_table(results), size_table(results)]
 
 
-def markdown(table):
-    lines = []
-    if table.rows:
-        rule = ["---"] + ["---:"] * (len(table.heading) - 1)
-        lines = ["| " + " | ".join(row) + " |" for row in [table.heading, rule] + table.rows]
-    parts = [[table.caption], lines, [f"- {note}" for note in table.notes]]
-    return "\n\n".join("\n".join(part) for part in parts if part)
+def device_tables():
+    block = json.loads(read("results.json"))["counts"][LIBRARY]["block"][0]
+    return device_table.tables(json.loads(read("device.json")), block)
 
 
-def whole(tables):
-    """The text for the document: the command, the machine, the versions, the tables."""
-    made, *versions = read("facts.txt").splitlines()
-    opening = f"{made}, with {'; '.join(versions)}."
-    return "\n\n".join([opening] + [markdown(table) for table in tables]) + "\n"
-
-
-def split_at_marks(document):
-    """The document's text up to the first mark and from the second one."""
-    try:
-        with open(document, encoding="utf-8") as file:
-            text = file.read()
-    except FileNotFoundError:
-        sys.exit(f"bench: there is no {document}")
-    if text.count(BEGIN) != 1 or text.count(END) != 1 or text.index(END) < text.index(BEGIN):
-        sys.exit(f"bench: {document} must have the lines {BEGIN} and {END}, once each, in this order")
-    return text[: text.index(BEGIN) + len(BEGIN)], text[text.index(END) :]
+def hand_over(name, mark, opening, tables):
+    """Prints the tables and writes them to a file, and to the document if one is named."""
+    for table in tables:
+        print("\n" + plain(table))
+    text = text_of(opening, tables)
+    with open(f"{FOLDER}/{name}", "w", encoding="utf-8") as file:
+        file.write(text)
+    print(f"\nwritten: {FOLDER}/{name}")
+    if sys.argv[1:2] == ["--write"]:
+        write_between_marks(sys.argv[2], mark, text)
+        print(f"written: {sys.argv[2]}")
 
 
 def main():
     if sys.argv[1:2] == ["--marks"]:
-        split_at_marks(sys.argv[2])
+        for mark in [HASH_MARK, DEVICE_MARK]:
+            split_at_marks(sys.argv[2], mark)
         return
-    results = json.loads(read("results.json"))
-    tables = [count_table(results), time_table(results), size_table(results)]
-    for table in tables:
-        print("\n" + plain(table))
-    text = whole(tables)
-    with open(f"{FOLDER}/table.md", "w", encoding="utf-8") as file:
-        file.write(text)
-    print(f"\nwritten: {FOLDER}/table.md")
-    if sys.argv[1:2] == ["--write"]:
-        document = sys.argv[2]
-        before, after = split_at_marks(document)
-        with open(document, "w", encoding="utf-8") as file:
-            file.write(f"{before}\n\n{text}\n{after}")
-        print(f"written: {document}")
+    hand_over("hash.md", HASH_MARK, facts(), hash_tables())
+    hand_over("device.md", DEVICE_MARK, SAME_RUN, device_tables())
 
 
 main()

@@ -8,7 +8,6 @@ Python's own hmac. P12 (value FFFFFFFFh) and P13 (root state 5) need an image th
 reaches, and are not here. The P of a name is the document's; rows without one stand there unmarked.
 """
 
-import hmac
 import os
 import select
 import subprocess
@@ -16,6 +15,14 @@ import sys
 import time
 
 sys.dont_write_bytecode = True  # nothing is written beside the sources
+from frames import (  # noqa: E402
+    ALL_FF,
+    increment_frame,
+    request_frame,
+    root_key_frame,
+    session_key_frame,
+    signature,
+)
 from tally import Failed, Tally  # noqa: E402
 
 PATIENCE = 20  # seconds for one answer
@@ -35,35 +42,7 @@ R 0 00
 """
 
 
-# ---- frames
-
-
-def signature(key, message):
-    return hmac.digest(key, message, "sha256")
-
-
-def root_key_frame(counter, key):
-    head = bytes([0x9B, 0x00, counter, 0x00])
-    return head + key + signature(key, head)[-28:]
-
-
-def session_key_frame(counter, root_key, data):
-    message = bytes([0x9B, 0x01, counter, 0x00]) + data
-    return message + signature(signature(root_key, data), message)
-
-
-def increment_frame(counter, session_key, value):
-    message = bytes([0x9B, 0x02, counter, 0x00]) + value.to_bytes(4, "big")
-    return message + signature(session_key, message)
-
-
-def request_frame(counter, session_key, tag):
-    message = bytes([0x9B, 0x03, counter, 0x00]) + tag
-    return message + signature(session_key, message)
-
-
 KEY = bytes(range(0x20, 0x40))
-ALL_FF = b"\xff" * 32
 DATA = bytes.fromhex("00112233")
 TAG = b"dappleteg 12"
 FF_SESSION_KEY = signature(ALL_FF, DATA)

@@ -1,7 +1,7 @@
-"""The implementations of the hash calls that the tests ask, and how their answers are compared.
+"""The programs that the tests ask, Python's own hash calls, and how their answers are compared.
 
-A request is a letter and its fields as bytes: H message, M key message, B chain block. Its line and
-its answer have the form that tests/shim/shim.c describes.
+A hash request is a letter and its fields as bytes: H message, M key message, B chain block. Its line
+and its answer have the form that tests/shim/shim.c describes; other lines go through `ask_lines`.
 """
 
 import hashlib
@@ -30,7 +30,7 @@ class Program:
         done = subprocess.run(self.command, input=text, capture_output=True, timeout=300)
         answers = done.stdout.decode(errors="replace").splitlines()
         if done.returncode != 0 or len(answers) != len(lines):
-            last = (answers or ["none"])[-1]
+            last = (answers or ["none"])[-1][:200]
             said = done.stderr.decode(errors="replace").strip()
             raise Failed(
                 f"{self.name} ended with status {done.returncode} after {len(answers)} of {len(lines)}"

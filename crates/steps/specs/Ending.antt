@@ -1,6 +1,6 @@
 -- Document 01, "Steps": the last step posts the status, and what a job leaves when it ends well. Assumes nothing.
 use Prim.Native.Nat.{ℕ, _+_}
-use mathlib.Core.Bool.{true}
+use mathlib.Core.Bool.{Bool, true}
 use mathlib.Core.List.{List, _++_}
 use lib.Dec.{eqb}
 use lib.ListN.{set}
@@ -61,7 +61,11 @@ withStep s step =
       kept = s .job .kept;
     })
 
+-- the next step is the last of its kind of job
+abbrev pub isLast : State → Bool
+isLast s = eqb (s .job .step + 1) (lengthOf (s .job .kind))
+
 -- one more step is done, and at the length of its kind the job has ended
 unfoldable pub advanced : State → State
 advanced s =
-    pick (eqb (s .job .step + 1) (lengthOf (s .job .kind))) (finishedBy (commandOf (s .job .kind)) s) (withStep s (s .job .step + 1))
+    pick (isLast s) (finishedBy (commandOf (s .job .kind)) s) (withStep s (s .job .step + 1))

@@ -3,12 +3,13 @@
 // Contracts cite specs/, document 01's section "Steps".
 ghost use mathlib.Core.Path.{_≡_};
 ghost use mathlib.Core.List.{_++_};
-ghost use Prim.Native.Nat.{_<_, _≤_};
-ghost use lib.ListN.{getD, set};
+ghost use Prim.Native.Nat.{_+_, _<_, _≤_};
+ghost use lib.ListN.{length, set};
+ghost use lib.Seq.{sets};
 ghost use Rattle.words.specs.Words.{bytesOf, bytesOfAll};
 ghost use Rattle.checks.specs.Layout.{field};
 ghost use Rattle.checks.specs.Jobs.{commandOf, hashSteps};
-ghost use Rattle.steps.specs.Ending.{withKey, withReply, finishedBy, advanced};
+ghost use Rattle.steps.specs.Ending.{withKey, withReply, finishedBy, isLast, withStep, advanced};
 ghost use Rattle.steps.specs.Deciding.{keptAfter, withKept, verdictOf, decided, hashStep};
 ghost use Rattle.steps.specs.Step.{stored, storeNow, stepState, stepImage};
 use checks::Command;
@@ -40,28 +41,26 @@ fn with_key(s: State, counter: u8, bytes: [u8; 32]) -> State
     t
 }
 
-// Byte i of what was signed and its signature, one after the other.
-fn reply_byte(message: [u8; 16], signature: [u8; 32], i: usize) -> u8
-    requires { ⌜ i < 48 ⌝ }
-    ensures { λ r. ⌜ r ≡ getD (message ++ signature) i 0 ⌝ }
+// The reply's bytes with some of them stored from a place on.
+fn placed(reply: [u8; 48], at: usize, bytes: &[u8]) -> [u8; 48]
+    requires { ⌜ at + length (now bytes) ≤ 48 ⌝ }
+    ensures { λ r. ⌜ r ≡ sets reply at (now (bytes .entry)) ⌝ }
 {
-    if i < 16 {
-        return message[i];
+    let mut r = reply;
+    let mut i = 0;
+    while i < bytes.len() {
+        r[at + i] = bytes[i];
+        i += 1;
     }
-    signature[i - 16]
+    r
 }
 
 // What was signed and its signature, one after the other.
 fn reply_bytes(message: [u8; 16], signature: [u8; 32]) -> [u8; 48]
     ensures { λ r. ⌜ r ≡ message ++ signature ⌝ }
 {
-    let mut bytes = [0u8; 48];
-    let mut i = 0;
-    while i < 48 {
-        bytes[i] = reply_byte(message, signature, i);
-        i += 1;
-    }
-    bytes
+    let front = placed([0u8; 48], 0, &message);
+    placed(front, 16, &signature)
 }
 
 // The state with a reply.
@@ -104,21 +103,36 @@ fn finished_by(command: Command, s: State) -> State
     }
 }
 
-// The state with one more step done; at the length of its kind the job has ended.
-fn advanced(s: State) -> State
+// Whether the next step is the job's last.
+fn is_last(s: State) -> bool
     requires { ⌜ s .job .step < 255 ⌝ }
-    ensures { λ r. ⌜ r ≡ advanced s ⌝ }
+    ensures { λ r. ⌜ r ≡ isLast s ⌝ }
 {
-    let mut job = s.job;
+    let job = s.job;
     let kind = job.kind;
     let next = job.step + 1;
-    if next == checks::length_of(kind) {
-        return finished_by(checks::command_of(kind), s);
-    }
-    job.step = next;
+    next == checks::length_of(kind)
+}
+
+// The state with one more step done.
+fn with_next(s: State) -> State
+    requires { ⌜ s .job .step < 255 ⌝ }
+    ensures { λ r. ⌜ r ≡ withStep s (s .job .step + 1) ⌝ }
+{
+    let mut job = s.job;
+    job.step += 1;
     let mut t = s;
     t.job = job;
     t
+}
+
+// The state after the last step of the job.
+fn finished(s: State) -> State
+    ensures { λ r. ⌜ r ≡ finishedBy (commandOf (s .job .kind)) s ⌝ }
+{
+    let job = s.job;
+    let kind = job.kind;
+    finished_by(checks::command_of(kind), s)
 }
 
 // The word that a job keeps once its checks have passed.
@@ -167,7 +181,11 @@ fn decided(s: State, value: u32) -> State
     let job = s.job;
     let kind = job.kind;
     let kept = kept_after(checks::command_of(kind), job.kept, value);
-    advanced(with_kept(s, kept))
+    let t = with_kept(s, kept);
+    if is_last(t) {
+        return finished(t);
+    }
+    with_next(t)
 }
 
 // The state after a hash step.
@@ -183,7 +201,10 @@ fn hash_step(image: &[u8], s: State) -> State
         let slot = image::slot_of(image, job.counter);
         return decided(t, slot.value);
     }
-    advanced(t)
+    if is_last(t) {
+        return finished(t);
+    }
+    with_next(t)
 }
 
 // Makes a store in a counter's slot.
@@ -205,7 +226,10 @@ fn store_step(image: &mut [u8], s: State) -> State
     let i = job.step - checks::hash_steps(checks::command_of(kind));
     let store = plan::store_of(kind, i, frame, job.kept);
     put_store(image, job.counter, store);
-    advanced(s)
+    if is_last(s) {
+        return finished(s);
+    }
+    with_next(s)
 }
 
 // One step of the job; nothing where none runs.

@@ -1,10 +1,10 @@
 -- Bytes stored one run behind the other are stored as one run. Assumes nothing.
 use Prim.Native.Nat.{ℕ, suc, _+_, _≤_, _<_}
 use mathlib.Core.Path.{_≡_, refl, _∙_}
-use mathlib.Core.List.{List, [], _∷_, _++_}
+use mathlib.Core.List.{List, [], _∷_, _++_, append-nil}
 use native.Mathlib.Numerals.{add-one}
 use native.Mathlib.Omega.{arith}
-use lib.ListN.{length, getD, take, drop, set}
+use lib.ListN.{length, getD, take, drop, set, drop-of-length-le}
 use lib.Seq.{sets, sets-eq, take-suc, take-at, length-take-le}
 
 -- the next run is stored where the first one ends
@@ -31,3 +31,7 @@ sets-front l v h =
 -- what was stored at the front is there
 pub take-sets : (l v : List ℕ) (n : ℕ) → length v ≡ n → n ≤ length l → take n (sets l 0 v) ≡ v
 take-sets l v n e h = rw (sets-front l v (omega arith)) (take-at v (drop (length v) l) n e)
+
+-- a run of all of it
+pub sets-all : (l v : List ℕ) → length v ≡ length l → sets l 0 v ≡ v
+sets-all l v e = sets-front l v (omega arith) ∙ rw (drop-of-length-le l {i = length v} (omega arith)) (append-nil v)

@@ -1,10 +1,12 @@
 -- `hash_step` meets its contract: the checks in the last step of the signature check. Assumes nothing.
 use borrow.Author.Needs.{needs}
 use Prim.Native.Nat.{_+_}
+use mathlib.Core.Path.{sym, _∙_}
 use borrow.Author.Tests.{eq-eqb, ne-eqb}
 use Rattle.words.specs.Choice.{pick}
 use Rattle.signing.specs.Hashed.{withBlock, hashed}
 use Rattle.steps.specs.Deciding.{hashStep}
+use Rattle.steps.proofs.Advancing.{last-step, another-step}
 use Rattle.steps.proofs.hash_step.Statement.{statement}
 use Rattle.steps.proofs.hash_step.Tie as tie
 
@@ -32,9 +34,9 @@ returns c =
     )
     (c .decided .ensures)
 
-advanced-requires : tie.Need-advanced-requires
+is-last-requires : tie.Need-is-last-requires
 unfolding hashed withBlock
-advanced-requires c κs =
+is-last-requires c κs =
     let start = c .before .before .before .before .before .before .before in
     let hashed-call = c .before .before .before .before .before .hashed in
     rw (hashed-call .ensures) (start .pre)
@@ -42,21 +44,47 @@ advanced-requires c κs =
 returns-2 : tie.Need-returns-2
 unfolding hashStep pick
 returns-2 c =
-    let a = c .before .before .before .before .before .before .before .before .args in
-    let hashed-call = c .before .before .before .before .before .before .hashed in
-    let command-of = c .before .before .before .command-of in
-    let last = c .before .before .signature-steps in
+    let a = c .before .before .before .before .before .before .before .before .before .before .args in
+    let command-of = c .before .before .before .before .before .command-of in
+    let if1 = c .before .before .before .if1 in
+    let last = c .before .before .before .before .signature-steps in
     let job = a .s .job in
+    let t = c .before .before .before .before .before .before .before .before .hashed in
     rw (
-      ← hashed-call .ensures,
+      ← t .ensures,
       ← command-of .ensures,
       ← last .ensures,
-      ne-eqb (job .step + 1) (last .result) (c .before .if1 .left),
+      ne-eqb (job .step + 1) (last .result) (if1 .left),
     )
-    (c .advanced .ensures)
+    (c .finished .ensures ∙ sym (last-step (t .result) (sym (c .before .before .is-last .ensures) ∙ c .before .if2 .taken)))
+
+with-next-requires : tie.Need-with-next-requires
+unfolding hashed withBlock
+with-next-requires c κs =
+    let start = c .before .before .before .before .before .before .before .before .before in
+    let hashed-call = c .before .before .before .before .before .before .before .hashed in
+    rw (hashed-call .ensures) (start .pre)
+
+returns-3 : tie.Need-returns-3
+unfolding hashStep pick
+returns-3 c =
+    let a = c .before .before .before .before .before .before .before .before .before .before .args in
+    let command-of = c .before .before .before .before .before .command-of in
+    let if1 = c .before .before .before .if1 in
+    let last = c .before .before .before .before .signature-steps in
+    let job = a .s .job in
+    let t = c .before .before .before .before .before .before .before .before .hashed in
+    rw (
+      ← t .ensures,
+      ← command-of .ensures,
+      ← last .ensures,
+      ne-eqb (job .step + 1) (last .result) (if1 .left),
+    )
+    (c .with-next .ensures ∙ sym (another-step (t .result) (sym (c .before .before .is-last .ensures) ∙ c .before .if2 .left)))
 
 pub hash-step-spec : {M : Type 1} → statement M
 hash-step-spec =
     tie.close
     (tie.spec (λ c κs. search needs) (λ c. search needs) (λ c κs. search needs) (λ c κs. search needs)
-    (λ c κs. search needs) decided-requires returns advanced-requires returns-2)
+    (λ c κs. search needs) decided-requires returns is-last-requires (λ c κs. search needs) returns-2 with-next-requires
+    returns-3)

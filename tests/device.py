@@ -1,0 +1,109 @@
+#!/usr/bin/env python3
+"""Compares two implementations of the device, the library (through its shim) and the second program,
+and both with what document 01 says.
+
+The same requests go to both, and their answers must be the same, byte for byte. First come the calls
+that are refused, single frames, the document's examples and every kind of job step by step: their
+answers are also compared with what the document wants, worked out in the tests. Then random
+requests; last, coverage: it fails if some refusal, status or kind of job was not reached. A run is
+fixed by its seed, which is printed.
+"""
+
+import argparse
+import hashlib
+import random
+import shlex
+import sys
+
+sys.dont_write_bytecode = True  # nothing is written beside the sources
+import device_bad  # noqa: E402
+import device_examples  # noqa: E402
+import device_frames  # noqa: E402
+import device_steps  # noqa: E402
+from blocks import after_first_block  # noqa: E402
+from device_bytes import POWER_ON, digits, image_of, put, slot  # noqa: E402
+from device_random import Walk  # noqa: E402
+from device_reached import WANTED, Reached  # noqa: E402
+from device_talk import expect_same, try_cases, try_histories  # noqa: E402
+from programs import Program  # noqa: E402
+from tally import Failed, Tally  # noqa: E402
+
+WALKS = 5000
+
+HISTORIES = {
+    "the document's examples": device_examples.examples,
+    "what a job keeps": device_examples.kept,
+    "jobs, one step a call": device_steps.all_step_by_step,
+    "jobs, in two calls": device_steps.all_in_two_calls,
+    "jobs, cut by a power-up after each step": lambda: device_steps.all_cuts("power-up"),
+    "jobs, cut by a reset after each step": lambda: device_steps.all_cuts("reset"),
+}
+
+
+def compare_blocks(rng):
+    """The tests' own first block, against hashlib: a padded message of at most 55 bytes is one."""
+    messages = [rng.randbytes(length) for length in range(56)]
+    for message in messages:
+        block = message + b"\x80" + bytes(55 - len(message)) + (8 * len(message)).to_bytes(8, "big")
+        if after_first_block(block) != hashlib.sha256(message).digest():
+            raise Failed(f"another digest of {message.hex()}")
+    return f"{len(messages)} messages"
+
+
+def no_requests():
+    """Lines that are no request, each answered by `?`."""
+    image, state = digits(image_of([slot()])), digits(POWER_ON)
+    lines = ["", " ", "U", "U ", "U 0", "U 9b", "U 0G", " U -", "U - ", "U - -", "UU -", "u -", "X -", "F", "W"]
+    lines += [f"F {image} {state} 66", f"F {image} {state} 66 - -", f"F {image} {state} 6 -", f"F {image} - 66 -"]
+    lines += [f"F - {state} 66 g", f"F {image} {state[:-2]} 66 -", f"F {image} {state}00 66 -", f"F  {state} 66 -"]
+    for quota in ("", "-", "-1", "+1", "01", "00", "A", "1 ", "4294967296", "18446744073709551617", "1.0"):
+        lines.append(f"W {image} {state} {quota}")
+    flags = ("enabled", "job", "reply_there", "key0_there", "key1_there", "key2_there", "key3_there")
+    for name, value in [(flag, value) for flag in flags for value in (2, 255)] + [("kind", 7), ("kind", 255)]:
+        wrong = digits(put(POWER_ON, **{name: value}))
+        lines += [f"F {image} {wrong} - -", f"W {image} {wrong} 1"]
+    return [(line, "?") for line in lines]
+
+
+def compare_random(programs, rng, count, reached):
+    """Goes on with every walk by one request at a time, until there are enough."""
+    walks = [Walk(rng) for _ in range(min(WALKS, count))]
+    asked = 0
+    while asked < count:
+        lines = [walk.request() for walk in walks]
+        first, second = [program.ask_lines(lines) for program in programs]
+        expect_same(programs, lines, first, second)
+        for walk, line, text in zip(walks, lines, first):
+            walk.go_on(reached.note(walk, line, text))
+        asked += len(lines)
+    if asked == 0:
+        raise Failed("there was no such request")
+    return f"{asked} requests"
+
+
+def main():
+    parser = argparse.ArgumentParser(description=__doc__, formatter_class=argparse.RawDescriptionHelpFormatter)
+    parser.add_argument("--shim", required=True, metavar="CMD", help="the command that runs the device's shim")
+    parser.add_argument("--second", required=True, metavar="CMD", help="the command that runs the second program")
+    parser.add_argument("--seed", type=int, default=1)
+    parser.add_argument("--count", type=int, default=120_000, help="random requests")
+    given = parser.parse_args()
+    print(f"seed {given.seed}, count {given.count}", flush=True)
+    library = Program("the library", shlex.split(given.shim))
+    second = Program("the second program", shlex.split(given.second) + ["device"])
+    programs, tally, reached = (library, second), Tally(), Reached()
+    rng = random.Random(given.seed)
+    tally.test("the tests' own block of SHA-256", lambda: compare_blocks(rng))
+    for name, cases in (device_bad.GROUPS | device_frames.GROUPS).items():
+        tally.test(name, lambda: try_cases(programs, cases()))
+    for name, histories in HISTORIES.items():
+        tally.test(name, lambda: try_histories(programs, histories()))
+    tally.test("lines that are no request", lambda: try_cases(programs, no_requests()))
+    tally.test("random requests", lambda: compare_random(programs, rng, given.count, reached))
+    for title in WANTED:
+        tally.test(f"coverage: {title}", lambda: reached.cover(title))
+    return tally.end()
+
+
+if __name__ == "__main__":
+    sys.exit(main())
