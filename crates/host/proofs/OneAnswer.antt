@@ -1,11 +1,13 @@
 -- One answer only, for each public function of this crate. Assumes nothing.
 use mathlib.Core.Path.{sym, _∙_}
 use denote.Ref.{now}
-use Rattle.words.proofs.Unique.{OneResult, OneLent}
+use Rattle.words.proofs.Unique.{OneResult, OneLent, OneSeen}
 use Rattle.host.proofs.build_root_key.Reads as build-root-key-reads
 use Rattle.host.proofs.build_session_key.Reads as build-session-key-reads
 use Rattle.host.proofs.build_increment.Reads as build-increment-reads
 use Rattle.host.proofs.build_request.Reads as build-request-reads
+use Rattle.host.proofs.read_reply.Reads as read-reply-reads
+use Rattle.host.proofs.part.Reads as part-reads
 
 build-root-key-one : OneResult build-root-key-reads.Post
 build-root-key-one κs a x y s t p q = p .0 ∙ sym (q .0)
@@ -30,3 +32,9 @@ build-request-one κs a x y s t p q = p .0 ∙ sym (q .0)
 
 build-request-one-lent : OneLent build-request-reads.Post (λ κs s. now (s .1 .1 .1 .0))
 build-request-one-lent κs a x y s t p q = p .1 ∙ sym (q .1)
+
+read-reply-one : OneResult read-reply-reads.Post
+read-reply-one κs a x y s t p q = p ∙ sym q
+
+part-one : OneSeen part-reads.Post (λ κs r. now r)
+part-one κs a x y s t p q = p ∙ sym q

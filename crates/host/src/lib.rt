@@ -8,6 +8,7 @@ ghost use lib.ListN.{length};
 ghost use lib.Seq.{sets};
 ghost use Rattle.hmac.specs.Hmac.{HMAC};
 ghost use Rattle.host.specs.Frames.{head, signedBy, rootKeyFrame, sessionKeyFrame, incrementFrame, requestFrame};
+ghost use Rattle.host.specs.Reading.{signatureHolds, judged, readReply, partOf};
 ghost use Rattle.host.specs.Building.{buildRefusal, withFront, built};
 
 // Refusals 5, 6 and 7, in this order.
@@ -130,4 +131,74 @@ pub fn build_root_key(counter: u32, key: &[u8], out: &mut [u8]) -> u32
     }
     put_root(counter as u8, key, out);
     0
+}
+
+// What a host reads in a reply.
+pub enum Verdict {
+    Refused(u32),
+    Busy,
+    Failed(u8),
+    WrongTag,
+    WrongSignature,
+    Good,
+}
+
+// Whether the signature of a reply is that of its tag and counter bytes.
+fn signature_holds(key: &[u8], reply: &[u8]) -> bool
+    requires { ⌜ (length (now key) ≡ 32) × (length (now reply) ≡ 49) ⌝ }
+    ensures { λ r. ⌜ r ≡ signatureHolds (now (key .entry)) (now (reply .entry)) ⌝ }
+{
+    let signed = signature(key, &reply[1..17]);
+    compare::same(&reply[17..49], &signed)
+}
+
+// The verdict on a reply, of arguments of the right lengths.
+fn judged(key: &[u8], tag: &[u8], reply: &[u8]) -> Verdict
+    requires { ⌜ (length (now key) ≡ 32) × (length (now reply) ≡ 49) ⌝ }
+    ensures { λ r. ⌜ r ≡ judged (now (key .entry)) (now (tag .entry)) (now (reply .entry)) ⌝ }
+{
+    let status = reply[0];
+    if status % 2 == 1 {
+        return Verdict::Busy;
+    }
+    if status != 0x80 {
+        return Verdict::Failed(status);
+    }
+    if compare::same(&reply[1..13], tag) {
+        if signature_holds(key, reply) {
+            return Verdict::Good;
+        }
+        return Verdict::WrongSignature;
+    }
+    Verdict::WrongTag
+}
+
+// The verdict on a reply to the request with this tag. Refusals 6 and 8.
+pub fn read_reply(key: &[u8], tag: &[u8], reply: &[u8]) -> Verdict
+    ensures { λ r. ⌜ r ≡ readReply (now (key .entry)) (now (tag .entry)) (now (reply .entry)) ⌝ }
+{
+    if key.len() != 32 {
+        return Verdict::Refused(6);
+    }
+    if tag.len() != 12 {
+        return Verdict::Refused(6);
+    }
+    if reply.len() != 49 {
+        return Verdict::Refused(8);
+    }
+    judged(key, tag, reply)
+}
+
+// The four counter bytes, where they stand in the reply; empty unless the reply is good.
+pub fn part<'a>(key: &[u8], tag: &[u8], reply: &'a [u8]) -> &'a [u8]
+    ensures { λ r. ⌜ now r ≡ partOf (readReply (now (key .entry)) (now (tag .entry)) (now (reply .entry))) (now (reply .entry)) ⌝ }
+{
+    match read_reply(key, tag, reply) {
+        Verdict::Refused(_) => &reply[0..0],
+        Verdict::Busy => &reply[0..0],
+        Verdict::Failed(_) => &reply[0..0],
+        Verdict::WrongTag => &reply[0..0],
+        Verdict::WrongSignature => &reply[0..0],
+        Verdict::Good => &reply[13..17],
+    }
 }

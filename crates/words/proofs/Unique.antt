@@ -11,3 +11,7 @@ module _ {K : Type 0} {A R S : K → Type 0} (Post : (κs : K) → A κs → R �
   -- any two outcomes leave the same in what is lent
   abbrev pub OneLent : {L : Type 0} → ((κs : K) → S κs → L) → Type 0
   OneLent lent = (κs : K) (a : A κs) (x y : R κs) (s t : S κs) → Post κs a x s → Post κs a y t → lent κs s ≡ lent κs t
+
+  -- any two results show the same, where a result is a place in what is lent and not a value
+  abbrev pub OneSeen : {L : Type 0} → ((κs : K) → R κs → L) → Type 0
+  OneSeen seen = (κs : K) (a : A κs) (x y : R κs) (s t : S κs) → Post κs a x s → Post κs a y t → seen κs x ≡ seen κs y

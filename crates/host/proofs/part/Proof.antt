@@ -1,0 +1,55 @@
+-- `part` meets its contract: the counter bytes, or none. Assumes nothing.
+use borrow.Author.Needs.{needs}
+use native.Mathlib.Omega.{arith}
+use mathlib.Core.Path.{sym, _∙_}
+use Rattle.host.proofs.GoodLength.{good-length}
+use Rattle.host.proofs.part.Statement.{statement}
+use Rattle.host.proofs.part.Tie as tie
+
+part-result-end-6 : tie.Need-part-result-end-6
+part-result-end-6 c =
+    let a = c .before .before .before .before .before .before .args in
+    let size =
+    good-length (a .key .now) (a .tag .now) (a .reply .now)
+    (sym (c .before .before .read-reply .ensures) ∙ c .enum-told6 .given .1) in
+    omega (arith, size)
+
+returns : tie.Need-returns
+returns c =
+    let read-reply = c .before .before .before .read-reply in
+    rw (← read-reply .ensures, c .before .enum-told .given .1)
+
+returns-2 : tie.Need-returns-2
+returns-2 c =
+    let read-reply = c .before .before .before .read-reply in
+    rw (← read-reply .ensures, c .before .enum-told2 .given .1)
+
+returns-3 : tie.Need-returns-3
+returns-3 c =
+    let read-reply = c .before .before .before .read-reply in
+    rw (← read-reply .ensures, c .before .enum-told3 .given .1)
+
+returns-4 : tie.Need-returns-4
+returns-4 c =
+    let read-reply = c .before .before .before .read-reply in
+    rw (← read-reply .ensures, c .before .enum-told4 .given .1)
+
+returns-5 : tie.Need-returns-5
+returns-5 c =
+    let read-reply = c .before .before .before .read-reply in
+    rw (← read-reply .ensures, c .before .enum-told5 .given .1)
+
+returns-6 : tie.Need-returns-6
+returns-6 c =
+    let read-reply = c .before .before .before .read-reply in
+    rw (← read-reply .ensures, c .before .enum-told6 .given .1)
+
+pub part-spec : {M : Type 1} → statement M
+part-spec =
+    tie.close
+    (tie.spec (λ c κs. search needs) (λ c. search needs) (λ c. search needs) (λ c. search needs) (λ c. search needs)
+    (λ c. search needs) (λ c. search needs) (λ c. search needs) (λ c. search needs) (λ c. search needs)
+    (λ c. search needs) (λ c. search needs) (λ c. search needs) (λ c. search needs) (λ c. search needs)
+    (λ c. search needs) (λ c. search needs) (λ c. search needs) (λ c. search needs) (λ c. search needs)
+    (λ c. search needs) (λ c. search needs) (λ c. search needs) (λ c. search needs) part-result-end-6 returns returns-2
+    returns-3 returns-4 returns-5 returns-6)

@@ -1,0 +1,28 @@
+-- `signature_holds` meets its contract. Assumes nothing.
+use borrow.Author.Needs.{needs}
+use native.Mathlib.Omega.{arith}
+use Rattle.checks.proofs.Fields.{field-part}
+use Rattle.host.specs.Reading.{signatureHolds}
+use Rattle.host.proofs.signature_holds.Statement.{statement}
+use Rattle.host.proofs.signature_holds.Tie as tie
+
+returns : tie.Need-returns
+unfolding signatureHolds
+returns c =
+    let before = c .before .before .before .before .before .before .before in
+    let signature = c .before .before .before .signature in
+    let start = before in
+    let reply = start .args .reply .now in
+    let size = start .pre .1 in
+    rw (
+      ← field-part 17 32 reply (omega (arith, size)),
+      ← field-part 1 16 reply (omega (arith, size)),
+      ← signature .ensures,
+    )
+    (c .same .ensures)
+
+pub signature-holds-spec : {M : Type 1} → statement M
+signature-holds-spec =
+    tie.close
+    (tie.spec (λ c. search needs) (λ c. search needs) (λ c. search needs) (λ c κs. search needs) (λ c. search needs)
+    (λ c. search needs) (λ c. search needs) (λ c. search needs) (λ c κs. search needs) returns)
