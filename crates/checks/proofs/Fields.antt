@@ -1,10 +1,10 @@
 -- A field that is all inside is that part of the frame. Assumes nothing.
 use Prim.Native.Nat.{ℕ, zero, suc, _+_, _≤_}
-use mathlib.Core.Path.{_≡_, refl, sym, _∙_}
+use mathlib.Core.Path.{_≡_, refl}
 use mathlib.Core.List.{List}
 use native.Mathlib.Omega.{arith}
 use lib.ListN.{length, take, drop, length-drop}
-use lib.Seq.{take-suc, take-all, getD-drop}
+use lib.Seq.{take-suc, getD-drop}
 use Rattle.words.specs.Table.{table}
 use Rattle.checks.specs.Layout.{field}
 
@@ -13,7 +13,3 @@ unfolding table
 field-part at zero s h = refl
 field-part at (suc n) s h =
     rw (take-suc (drop at s) n 0 (rw (length-drop at s) (omega arith)), field-part at n s (omega arith), getD-drop at s n 0)
-
--- the whole frame
-pub field-all : (n : ℕ) (s : List ℕ) → length s ≡ n → field 0 n s ≡ s
-field-all n s e = sym (field-part 0 n s (omega arith)) ∙ take-all n s (omega arith)

@@ -1,4 +1,4 @@
-// The host end: building the four OP1 frames, on numbers and byte slices.
+// The host end: building the four OP1 frames and reading a reply, on numbers and byte slices.
 //
 // Contracts cite specs/. A refused call leaves the output as found; a built frame fills its front, and the rest stays.
 ghost use mathlib.Core.Path.{_≡_};

@@ -48,7 +48,7 @@ fn counter_and_root_store(i: u8) -> Store
     Store { at: 0, word: 0 }
 }
 
-// The stores of a root key: its words, then those that follow from the eighth on.
+// A root key on an unset counter: its words, then the stores that set the counter, then root state 0.
 fn key_and_counter_store(i: u8, frame: [u8; 64]) -> Store
     ensures { λ r. ⌜ r ≡ storeOf Kind.RootKeyAndCounter i frame 0 ⌝ }
 {
