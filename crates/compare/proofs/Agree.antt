@@ -40,13 +40,13 @@ each-same (suc n) a b e i h =
     (eq-or-lt-of-le (le-of-suc-le-suc h))
 
 -- a list is the same as itself
-same-self : (a : List ℕ) → sameBytes a a ≡ true
+pub same-self : (a : List ℕ) → sameBytes a a ≡ true
 unfolding sameBytes pick
 same-self [] = refl
 same-self (x ∷ a) = rw (eq-eqb x x refl, same-self a)
 
 -- lists that are the same are equal
-same-equal : (a b : List ℕ) → sameBytes a b ≡ true → a ≡ b
+pub same-equal : (a b : List ℕ) → sameBytes a b ≡ true → a ≡ b
 unfolding sameBytes
 same-equal [] [] e = refl
 same-equal [] (y ∷ b) e = absurd (never e)

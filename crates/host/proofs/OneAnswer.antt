@@ -6,6 +6,7 @@ use Rattle.host.proofs.build_root_key.Reads as build-root-key-reads
 use Rattle.host.proofs.build_session_key.Reads as build-session-key-reads
 use Rattle.host.proofs.build_increment.Reads as build-increment-reads
 use Rattle.host.proofs.build_request.Reads as build-request-reads
+use Rattle.host.proofs.derive_session_key.Reads as derive-session-key-reads
 use Rattle.host.proofs.read_reply.Reads as read-reply-reads
 use Rattle.host.proofs.part.Reads as part-reads
 
@@ -32,6 +33,12 @@ build-request-one κs a x y s t p q = p .0 ∙ sym (q .0)
 
 build-request-one-lent : OneLent build-request-reads.Post (λ κs s. now (s .1 .1 .1 .0))
 build-request-one-lent κs a x y s t p q = p .1 ∙ sym (q .1)
+
+derive-session-key-one : OneResult derive-session-key-reads.Post
+derive-session-key-one κs a x y s t p q = p .0 ∙ sym (q .0)
+
+derive-session-key-one-lent : OneLent derive-session-key-reads.Post (λ κs s. now (s .1 .1 .0))
+derive-session-key-one-lent κs a x y s t p q = p .1 ∙ sym (q .1)
 
 read-reply-one : OneResult read-reply-reads.Post
 read-reply-one κs a x y s t p q = p ∙ sym q

@@ -35,23 +35,23 @@ readReply key tag reply =
     (Refused 6))
     (Refused 6)
 
--- this paper's number of a verdict: the refusal's, 0 if it is none
+-- the number of a verdict: document 01's for a refusal, 0 for good, and what a C program is told for the others
 abbrev pub numberOf : Verdict → ℕ
 numberOf (Refused number) = number
-numberOf Busy = 0
-numberOf (Failed status) = 0
-numberOf WrongTag = 0
-numberOf WrongSignature = 0
+numberOf Busy = 16
+numberOf (Failed status) = 17
+numberOf WrongTag = 18
+numberOf WrongSignature = 19
 numberOf Good = 0
 
--- the status of a reply that is read as failed
+-- the status that a verdict carries: the first byte of the reply (proofs/Verdicts.antt)
 abbrev pub statusOf : Verdict → ℕ
 statusOf (Refused number) = 0
-statusOf Busy = 0
+statusOf Busy = 0x01
 statusOf (Failed status) = status
-statusOf WrongTag = 0
-statusOf WrongSignature = 0
-statusOf Good = 0
+statusOf WrongTag = 0x80
+statusOf WrongSignature = 0x80
+statusOf Good = 0x80
 
 -- the reader hands back the four counter bytes as the part of the reply where they stand; empty unless good
 abbrev pub partOf : Verdict → List ℕ → List ℕ

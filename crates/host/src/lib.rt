@@ -7,9 +7,9 @@ ghost use mathlib.Core.List.{_++_};
 ghost use lib.ListN.{length};
 ghost use lib.Seq.{sets};
 ghost use Rattle.hmac.specs.Hmac.{HMAC};
-ghost use Rattle.host.specs.Frames.{head, signedBy, rootKeyFrame, sessionKeyFrame, incrementFrame, requestFrame};
+ghost use Rattle.host.specs.Frames.{head, signedBy, rootKeyFrame};
 ghost use Rattle.host.specs.Reading.{signatureHolds, judged, readReply, partOf};
-ghost use Rattle.host.specs.Building.{buildRefusal, withFront, built};
+ghost use Rattle.host.specs.Building.{buildRefusal, withFront, builtRootKey, builtSessionKey, builtIncrement, builtRequest, derivedKey};
 
 // Refusals 5, 6 and 7, in this order.
 fn build_refusal(
@@ -74,7 +74,7 @@ fn put_signed(key: &[u8], frame_type: u8, counter: u8, data: &[u8], out: &mut [u
 
 // Builds an increment frame, type 02, of the counter data, under the session key.
 pub fn build_increment(counter: u32, key: &[u8], value: &[u8], out: &mut [u8]) -> u32
-    ensures { λ r. ⌜ (r ≡ buildRefusal counter (length (now (key .entry))) (length (now (value .entry))) 4 (length (now (out .entry))) 40) × (now (out .exit) ≡ built (buildRefusal counter (length (now (key .entry))) (length (now (value .entry))) 4 (length (now (out .entry))) 40) (incrementFrame counter (now (key .entry)) (now (value .entry))) (now (out .entry))) ⌝ }
+    ensures { λ r. ⌜ (r ≡ builtIncrement counter (now (key .entry)) (now (value .entry)) (now (out .entry)) .number) × (now (out .exit) ≡ builtIncrement counter (now (key .entry)) (now (value .entry)) (now (out .entry)) .output) ⌝ }
 {
     let number = build_refusal(counter, key.len(), value.len(), 4, out.len(), 40);
     if number != 0 {
@@ -86,7 +86,7 @@ pub fn build_increment(counter: u32, key: &[u8], value: &[u8], out: &mut [u8]) -
 
 // Builds a request frame, type 03, of a tag, under the session key.
 pub fn build_request(counter: u32, key: &[u8], tag: &[u8], out: &mut [u8]) -> u32
-    ensures { λ r. ⌜ (r ≡ buildRefusal counter (length (now (key .entry))) (length (now (tag .entry))) 12 (length (now (out .entry))) 48) × (now (out .exit) ≡ built (buildRefusal counter (length (now (key .entry))) (length (now (tag .entry))) 12 (length (now (out .entry))) 48) (requestFrame counter (now (key .entry)) (now (tag .entry))) (now (out .entry))) ⌝ }
+    ensures { λ r. ⌜ (r ≡ builtRequest counter (now (key .entry)) (now (tag .entry)) (now (out .entry)) .number) × (now (out .exit) ≡ builtRequest counter (now (key .entry)) (now (tag .entry)) (now (out .entry)) .output) ⌝ }
 {
     let number = build_refusal(counter, key.len(), tag.len(), 12, out.len(), 48);
     if number != 0 {
@@ -98,7 +98,7 @@ pub fn build_request(counter: u32, key: &[u8], tag: &[u8], out: &mut [u8]) -> u3
 
 // Builds a session key frame, type 01, of the key data: the root key gives the new session key, which signs it.
 pub fn build_session_key(counter: u32, root: &[u8], key_data: &[u8], out: &mut [u8]) -> u32
-    ensures { λ r. ⌜ (r ≡ buildRefusal counter (length (now (root .entry))) (length (now («key_data» .entry))) 4 (length (now (out .entry))) 40) × (now (out .exit) ≡ built (buildRefusal counter (length (now (root .entry))) (length (now («key_data» .entry))) 4 (length (now (out .entry))) 40) (sessionKeyFrame counter (now (root .entry)) (now («key_data» .entry))) (now (out .entry))) ⌝ }
+    ensures { λ r. ⌜ (r ≡ builtSessionKey counter (now (root .entry)) (now («key_data» .entry)) (now (out .entry)) .number) × (now (out .exit) ≡ builtSessionKey counter (now (root .entry)) (now («key_data» .entry)) (now (out .entry)) .output) ⌝ }
 {
     let number = build_refusal(counter, root.len(), key_data.len(), 4, out.len(), 40);
     if number != 0 {
@@ -106,6 +106,19 @@ pub fn build_session_key(counter: u32, root: &[u8], key_data: &[u8], out: &mut [
     }
     let key = signature(root, key_data);
     put_signed(&key, 1, counter as u8, key_data, out);
+    0
+}
+
+// The session key of a root key and key data, for a host that has no HMAC of its own. Refusal 6.
+pub fn derive_session_key(root: &[u8], key_data: &[u8], out: &mut [u8; 32]) -> u32
+    ensures { λ r. ⌜ (r ≡ derivedKey (now (root .entry)) (now («key_data» .entry)) (now (out .entry)) .number) × (now (out .exit) ≡ derivedKey (now (root .entry)) (now («key_data» .entry)) (now (out .entry)) .output) ⌝ }
+{
+    let number = build_refusal(0, root.len(), key_data.len(), 4, 0, 0);
+    if number != 0 {
+        return number;
+    }
+    let key = signature(root, key_data);
+    *out = key;
     0
 }
 
@@ -123,7 +136,7 @@ fn put_root(counter: u8, key: &[u8], out: &mut [u8])
 
 // Builds a root key frame, type 00: the key sent, and the last 28 bytes of its signature.
 pub fn build_root_key(counter: u32, key: &[u8], out: &mut [u8]) -> u32
-    ensures { λ r. ⌜ (r ≡ buildRefusal counter (length (now (key .entry))) 0 0 (length (now (out .entry))) 64) × (now (out .exit) ≡ built (buildRefusal counter (length (now (key .entry))) 0 0 (length (now (out .entry))) 64) (rootKeyFrame counter (now (key .entry))) (now (out .entry))) ⌝ }
+    ensures { λ r. ⌜ (r ≡ builtRootKey counter (now (key .entry)) (now (out .entry)) .number) × (now (out .exit) ≡ builtRootKey counter (now (key .entry)) (now (out .entry)) .output) ⌝ }
 {
     let number = build_refusal(counter, key.len(), 0, 0, out.len(), 64);
     if number != 0 {

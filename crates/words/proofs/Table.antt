@@ -3,9 +3,12 @@
 use mathlib.Core.Path.{_≡_, refl, ap, sym, _∙_}
 use mathlib.Core.List.{List, [], _∷_, _++_, append-nil}
 use Prim.Native.Nat.{ℕ, zero, suc, _+_, _<_}
+use mathlib.Core.Logic.{⊎-elim}
+use native.Mathlib.Nat.{not-suc-le-zero, le-of-suc-le-suc, eq-or-lt-of-le}
 use native.Mathlib.Numerals.{add-one}
 use native.Mathlib.Omega.{arith}
-use lib.ListN.{length, drop, set, length-append, drop-of-length-le}
+use lib.ListN.{length, getD, drop, set, length-append, drop-of-length-le, List·getD-append}
+use lib.Seq.{getD-at}
 use Rattle.words.specs.Table.{table}
 use Rattle.words.proofs.Filling.{fill-more}
 
@@ -28,3 +31,12 @@ pub table-same : (f g : ℕ → ℕ) (n : ℕ) → ((i : ℕ) → i < n → f i 
 unfolding table
 table-same f g zero e = refl
 table-same f g (suc n) e = rw (table-same f g n (λ i h. e i (omega arith)), e n (omega arith))
+
+-- the element at a place
+pub getD-table : (f : ℕ → ℕ) (n i d : ℕ) → i < n → getD (table f n) i d ≡ f i
+unfolding table
+getD-table f zero i d h = absurd (not-suc-le-zero h)
+getD-table f (suc n) i d h =
+    ⊎-elim (λ e. rw e (getD-at (table f n) (f n) [] d n (length-table f n)))
+    (λ l. List·getD-append (table f n) (f n ∷ []) d i (rw (length-table f n) l) ∙ getD-table f n i d l)
+    (eq-or-lt-of-le (le-of-suc-le-suc h))

@@ -4,13 +4,12 @@ use mathlib.Core.Path.{sym, _∙_}
 use native.Mathlib.Omega.{arith}
 use borrow.Author.Tests.{eq-eqb, ne-eqb}
 use Rattle.words.specs.Choice.{pick}
-use Rattle.host.specs.Building.{built}
 use Rattle.host.proofs.Accepted.{accepted}
 use Rattle.host.proofs.build_root_key.Statement.{statement}
 use Rattle.host.proofs.build_root_key.Tie as tie
 
 returns : tie.Need-returns
-unfolding built pick
+unfolding pick
 returns c =
     let n = c .before .build-refusal in
     (n .ensures, rw (← n .ensures, ne-eqb (n .result) 0 (c .if1 .taken)))
@@ -26,7 +25,7 @@ put-root-requires c κs =
     (was .1, was .3)
 
 returns-2 : tie.Need-returns-2
-unfolding built pick
+unfolding pick
 returns-2 c =
     let if1 = c .before .before .before .before .if1 in
     let n = c .before .before .before .before .before .build-refusal in

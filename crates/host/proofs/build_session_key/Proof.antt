@@ -5,13 +5,12 @@ use native.Mathlib.Omega.{arith}
 use borrow.Author.Tests.{eq-eqb, ne-eqb}
 use Rattle.words.specs.Choice.{pick}
 use Rattle.host.specs.Frames.{sessionKey, sessionKeyFrame}
-use Rattle.host.specs.Building.{built}
 use Rattle.host.proofs.Accepted.{accepted}
 use Rattle.host.proofs.build_session_key.Statement.{statement}
 use Rattle.host.proofs.build_session_key.Tie as tie
 
 returns : tie.Need-returns
-unfolding built pick
+unfolding pick
 returns c =
     let n = c .before .build-refusal in
     (n .ensures, rw (← n .ensures, ne-eqb (n .result) 0 (c .if1 .taken)))
@@ -35,7 +34,7 @@ put-signed-requires c κs =
     (omega arith, omega (arith, was .2), omega (arith, was .2, was .3))
 
 returns-2 : tie.Need-returns-2
-unfolding built pick sessionKeyFrame sessionKey
+unfolding pick sessionKeyFrame sessionKey
 returns-2 c =
     let if1 = c .before .before .before .before .before .before .if1 in
     let signature = c .before .before .before .before .before .signature in

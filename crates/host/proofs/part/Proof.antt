@@ -2,17 +2,15 @@
 use borrow.Author.Needs.{needs}
 use native.Mathlib.Omega.{arith}
 use mathlib.Core.Path.{sym, _∙_}
-use Rattle.host.proofs.GoodLength.{good-length}
+use Rattle.host.proofs.Verdicts.{good-only}
 use Rattle.host.proofs.part.Statement.{statement}
 use Rattle.host.proofs.part.Tie as tie
 
 part-result-end-6 : tie.Need-part-result-end-6
 part-result-end-6 c =
     let a = c .before .before .before .before .before .before .args in
-    let size =
-    good-length (a .key .now) (a .tag .now) (a .reply .now)
-    (sym (c .before .before .read-reply .ensures) ∙ c .enum-told6 .given .1) in
-    omega (arith, size)
+    let good = good-only (a .key .now) (a .tag .now) (a .reply .now) (sym (c .before .before .read-reply .ensures) ∙ c .enum-told6 .given .1) in
+    omega (arith, good .reply-length)
 
 returns : tie.Need-returns
 returns c =

@@ -1,0 +1,4 @@
+-- Both ends together: the fields of a built frame, that it passes, and that the reply to it is read as good.
+pub mod Fields
+pub mod Passes
+pub mod Replies

@@ -1,0 +1,82 @@
+-- A frame that the host builds with the right keys passes the device's signature check, of each type and every counter.
+-- Assumes nothing.
+use Prim.Native.Nat.{ℕ, _+_}
+use mathlib.Core.Path.{_≡_, refl, ap, sym, _∙_}
+use mathlib.Core.List.{List, [], _++_, append-assoc}
+use native.Mathlib.Omega.{arith}
+use lib.ListN.{length, length-append}
+use Rattle.words.specs.Choice.{pick}
+use Rattle.words.proofs.Table.{length-table}
+use Rattle.compare.specs.Compare.{sameBytes}
+use Rattle.compare.proofs.Agree.{same-self}
+use Rattle.hmac.specs.Hmac.{HMAC}
+use Rattle.checks.specs.Layout.{field}
+use Rattle.checks.specs.declared.Command.{Command}
+use Rattle.checks.specs.declared.Command.the-variants.{WriteRootKey, UpdateSessionKey, IncrementCounter, RequestCounter}
+use Rattle.image.specs.Slot.{rootKey}
+use Rattle.verdict.specs.Signature.{signatureHolds, signatureStatus}
+use Rattle.arrival.specs.Arrival.{frameKept}
+use Rattle.device.specs.Work.{Device}
+use Rattle.rules.specs.Whole.{keyThere, signature}
+use Rattle.host.specs.Frames.{head, sessionKey, rootKeyFrame, sessionKeyFrame, incrementFrame, requestFrame}
+use Rattle.ends.proofs.Fields.{length-HMAC, field-between, field-behind, kept-field, counter-sent, front-sent, data-sent, signature-sent}
+
+-- check 8 of a frame that has this signature
+abbrev Passes : Command → Device → List ℕ → Type 0
+Passes command d frame = signatureStatus command (frameKept frame) (signature command d frame) ≡ 0
+
+-- type 00, whatever the device
+pub root-key-passes : (d : Device) (counter : ℕ) (key : List ℕ) → length key ≡ 32 → Passes WriteRootKey d (rootKeyFrame counter key)
+unfolding signatureStatus signatureHolds rootKeyFrame pick
+root-key-passes d counter key size =
+    let frame = rootKeyFrame counter key in
+    let digest = HMAC key (head 0 counter) in
+    let key-sent : field 4 32 (frameKept frame) ≡ key =
+        kept-field 4 32 frame (omega arith) ∙ field-between 4 32 (head 0 counter) key (field 4 28 digest) refl size in
+    let front : field 0 4 (frameKept frame) ≡ head 0 counter =
+        kept-field 0 4 frame (omega arith) ∙ field-between 0 4 [] (head 0 counter) (key ++ field 4 28 digest) refl refl in
+    let signed : field 36 28 (frameKept frame) ≡ field 4 28 digest =
+        kept-field 36 28 frame (omega arith)
+        ∙ field-behind 36 28 (head 0 counter ++ key) (field 4 28 digest) (omega (arith, size)) (length-table _ 28) in
+    rw (key-sent, front, signed, same-self (field 4 28 digest))
+
+-- type 01, built with the root key in use
+pub session-key-passes :
+    (d : Device) (counter : ℕ) (keyData : List ℕ) → length keyData ≡ 4 → length (rootKey (d .image) counter) ≡ 32 →
+    Passes UpdateSessionKey d (sessionKeyFrame counter (rootKey (d .image) counter) keyData)
+unfolding signatureStatus signatureHolds sessionKeyFrame sessionKey pick
+session-key-passes d counter keyData size root =
+    let key = HMAC (rootKey (d .image) counter) keyData in
+    let long : length key ≡ 32 = length-HMAC (rootKey (d .image) counter) keyData root (omega (arith, size)) in
+    rw (
+      counter-sent key 1 counter keyData 4 size (omega arith),
+      data-sent key 1 counter keyData 4 size (omega arith),
+      front-sent key 1 counter keyData 4 size (omega arith),
+      signature-sent key 1 counter keyData 4 size (omega arith) long,
+      same-self (HMAC key (head 1 counter ++ keyData)),
+    )
+
+-- types 02 and 03, built with the counter's session key
+pub increment-passes :
+    (d : Device) (counter : ℕ) (key value : List ℕ) → length key ≡ 32 → length value ≡ 4 →
+    keyThere d (incrementFrame counter key value) ≡ key → Passes IncrementCounter d (incrementFrame counter key value)
+unfolding signatureStatus signatureHolds incrementFrame pick
+increment-passes d counter key value long size same =
+    rw (
+      same,
+      front-sent key 2 counter value 4 size (omega arith),
+      signature-sent key 2 counter value 4 size (omega arith) long,
+      same-self (HMAC key (head 2 counter ++ value)),
+    )
+
+pub request-passes :
+    (d : Device) (counter : ℕ) (key tag : List ℕ) → length key ≡ 32 → length tag ≡ 12 →
+    keyThere d (requestFrame counter key tag) ≡ key → Passes RequestCounter d (requestFrame counter key tag)
+unfolding signatureStatus signatureHolds requestFrame pick
+request-passes d counter key tag long size same =
+    rw (
+      same,
+      front-sent key 3 counter tag 12 size (omega arith),
+      signature-sent key 3 counter tag 12 size (omega arith) long,
+      same-self (HMAC key (head 3 counter ++ tag)),
+    )

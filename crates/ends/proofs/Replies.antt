@@ -1,0 +1,129 @@
+-- The device's reply to a request that the host built is read as good, and hands back the device's counter value. Assumes nothing.
+use Prim.Native.Nat.{ℕ, suc, _+_, _-_, _≤_, _<_}
+use mathlib.Core.Path.{_≡_, refl, ap, sym, _∙_}
+use mathlib.Core.Bool.{true, false}
+use mathlib.Core.List.{List, [], _++_, append-assoc}
+use native.Mathlib.Omega.{arith}
+use borrow.Author.Tests.{lt-ltb, ne-eqb}
+use lib.Dec.{ltb, eqb}
+use lib.ListN.{length, getD, length-append}
+use Rattle.words.specs.Choice.{pick}
+use Rattle.words.specs.Table.{table}
+use Rattle.words.specs.Words.{bytesOf}
+use Rattle.words.proofs.Table.{length-table, table-same, getD-table}
+use Rattle.hmac.specs.Hmac.{HMAC}
+use Rattle.frames.specs.declared.Reply.{Reply}
+use Rattle.frames.specs.Reading.{readByte, readOutput}
+use Rattle.checks.specs.Layout.{field}
+use Rattle.checks.proofs.Fields.{field-part}
+use Rattle.checks.specs.Checks.{orElse}
+use Rattle.checks.specs.Jobs.{kindOf}
+use Rattle.checks.specs.declared.Command.the-variants.{RequestCounter}
+use Rattle.checks.specs.declared.Kind.the-variants.{Request}
+use Rattle.verdict.specs.Signature.{signatureStatus}
+use Rattle.verdict.specs.Verdict.{verdict}
+use Rattle.arrival.specs.Arrival.{frameKept, statusOnArrival}
+use Rattle.device.specs.Work.{Device}
+use Rattle.rules.specs.Whole.{Outcome, kindIn, valueIn, keyThere, replyAfter, lastChecks, allChecks, carriedOut, whole}
+use Rattle.host.specs.Frames.{signedBy, requestFrame}
+use Rattle.host.specs.declared.Verdict.the-variants.{Good}
+use Rattle.host.specs.Reading.{readReply, partOf}
+use Rattle.host.proofs.Verdicts.{GoodReply, good-read}
+use Rattle.ends.proofs.Fields.{length-HMAC, field-between, field-behind, data-sent}
+use Rattle.ends.proofs.Passes.{request-passes}
+
+abbrev shown : List ℕ → Reply
+shown bytes = record { there = true; bytes = bytes }
+
+-- what a read of 49 bytes gives of a reply
+abbrev pub readBack : List ℕ → List ℕ
+readBack bytes = readOutput false 0x80 (shown bytes) 49
+
+byte-back : (bytes : List ℕ) (i : ℕ) → i < 48 → readByte false 0x80 (shown bytes) (suc i) ≡ getD bytes i 0
+unfolding readByte pick
+byte-back bytes i h = rw (ne-eqb (suc i) 0 (omega arith), lt-ltb (suc i) 49 (omega arith)) (ap (λ (j : ℕ). getD bytes j 0) (omega arith))
+
+field-back : (at n : ℕ) (bytes : List ℕ) → at + n ≤ 48 → field (1 + at) n (readBack bytes) ≡ field at n bytes
+unfolding readOutput
+field-back at n bytes h =
+    table-same _ _ n
+    (λ i l.
+    getD-table (readByte false 0x80 (shown bytes)) 49 (1 + at + i) 0 (omega arith)
+    ∙ ap (readByte false 0x80 (shown bytes)) (omega arith) ∙ byte-back bytes (at + i) (omega arith))
+
+-- a reply of a tag and a value, signed under a key
+module _ (key tag : List ℕ) (value : ℕ) (long : length key ≡ 32) (size : length tag ≡ 12) where
+  abbrev said : List ℕ
+  said = tag ++ bytesOf value
+
+  abbrev reply : List ℕ
+  reply = said ++ HMAC key said
+
+  long-said : length said ≡ 16
+  long-said = omega (arith, length-append tag (bytesOf value), size)
+
+  good : GoodReply key tag (readBack reply)
+  unfolding readOutput readByte pick
+  good =
+      let front : field 1 16 (readBack reply) ≡ said =
+          field-back 0 16 reply (omega arith) ∙ field-between 0 16 [] said (HMAC key said) refl long-said in
+      record {
+        key-length = long;
+        tag-length = size;
+        reply-length = length-table (readByte false 0x80 (shown reply)) 49;
+        status = getD-table (readByte false 0x80 (shown reply)) 49 0 0 (omega arith);
+        same-tag = field-back 0 12 reply (omega arith) ∙ rw (append-assoc tag (bytesOf value) (HMAC key said)) (field-between 0 12 [] tag (bytesOf value ++ HMAC key said) refl size);
+        signed =
+            field-back 16 32 reply (omega arith)
+            ∙ field-behind 16 32 said (HMAC key said) long-said (length-HMAC key said long (omega (arith, long-said)))
+            ∙ sym (ap (HMAC key) front);
+      }
+
+  part-back : partOf Good (readBack reply) ≡ bytesOf value
+  unfolding readOutput
+  part-back =
+      field-part 13 4 (readBack reply) (omega (arith, length-table (readByte false 0x80 (shown reply)) 49))
+      ∙ field-back 12 4 reply (omega arith)
+      ∙ rw (append-assoc tag (bytesOf value) (HMAC key said)) (field-between 12 4 tag (bytesOf value) (HMAC key said) size refl)
+
+-- a request that the host built with the counter's session key, and that checks 1 to 7 let through
+module _
+  (d : Device) (counter : ℕ) (key tag : List ℕ) (long : length key ≡ 32) (size : length tag ≡ 12)
+  (same : keyThere d (requestFrame counter key tag) ≡ key)
+  (taken : statusOnArrival (d .image) (d .state) (requestFrame counter key tag) ≡ 0) where
+  abbrev frame : List ℕ
+  frame = requestFrame counter key tag
+
+  kind-asked : kindIn d frame ≡ Request
+  unfolding requestFrame signedBy kindOf pick
+  kind-asked = refl
+
+  no-check-fails : allChecks d frame ≡ 0
+  unfolding allChecks lastChecks verdict pick
+  no-check-fails = rw (taken, kind-asked, request-passes d counter key tag long size same)
+
+  tag-kept : field 4 12 (frameKept frame) ≡ tag
+  unfolding requestFrame
+  tag-kept = data-sent key 3 counter tag 12 size (omega arith)
+
+  -- its whole-frame result: 80h, and the reply
+  answered : (whole d frame .status ≡ 0x80) × (whole d frame .reply ≡ shown (reply key tag (valueIn d frame) long size))
+  unfolding whole carriedOut pick
+  answered =
+      rw (no-check-fails, kind-asked)
+      (refl, rw (tag-kept, same))
+
+  -- what a read of 49 bytes gives then
+  abbrev pub reading : List ℕ
+  reading = readOutput false (whole d frame .status) (whole d frame .reply) 49
+
+  as-read : reading ≡ readBack (reply key tag (valueIn d frame) long size)
+  as-read = rw (answered .0, answered .1)
+
+  -- is read as good,
+  pub read-as-good : readReply key tag reading ≡ Good
+  read-as-good = rw as-read (good-read key tag _ (good key tag (valueIn d frame) long size))
+
+  -- and the part is the device's counter value
+  pub value-handed-back : partOf (readReply key tag reading) reading ≡ bytesOf (valueIn d frame)
+  value-handed-back = rw (read-as-good, as-read) (part-back key tag (valueIn d frame) long size)

@@ -1,0 +1,2 @@
+-- That each entry has one answer only.
+pub mod OneAnswer
