@@ -32,12 +32,12 @@ root-key-passes d counter key size =
     let frame = rootKeyFrame counter key in
     let digest = HMAC key (head 0 counter) in
     let key-sent : field 4 32 (frameKept frame) ≡ key =
-        kept-field 4 32 frame (omega arith) ∙ field-between 4 32 (head 0 counter) key (field 4 28 digest) refl size in
+    kept-field 4 32 frame (omega arith) ∙ field-between 4 32 (head 0 counter) key (field 4 28 digest) refl size in
     let front : field 0 4 (frameKept frame) ≡ head 0 counter =
-        kept-field 0 4 frame (omega arith) ∙ field-between 0 4 [] (head 0 counter) (key ++ field 4 28 digest) refl refl in
+    kept-field 0 4 frame (omega arith) ∙ field-between 0 4 [] (head 0 counter) (key ++ field 4 28 digest) refl refl in
     let signed : field 36 28 (frameKept frame) ≡ field 4 28 digest =
-        kept-field 36 28 frame (omega arith)
-        ∙ field-behind 36 28 (head 0 counter ++ key) (field 4 28 digest) (omega (arith, size)) (length-table _ 28) in
+    kept-field 36 28 frame (omega arith)
+    ∙ field-behind 36 28 (head 0 counter ++ key) (field 4 28 digest) (omega (arith, size)) (length-table _ 28) in
     rw (key-sent, front, signed, same-self (field 4 28 digest))
 
 -- type 01, built with the root key in use

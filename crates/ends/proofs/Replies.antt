@@ -66,7 +66,7 @@ module _ (key tag : List ℕ) (value : ℕ) (long : length key ≡ 32) (size : l
   unfolding readOutput readByte pick
   good =
       let front : field 1 16 (readBack reply) ≡ said =
-          field-back 0 16 reply (omega arith) ∙ field-between 0 16 [] said (HMAC key said) refl long-said in
+      field-back 0 16 reply (omega arith) ∙ field-between 0 16 [] said (HMAC key said) refl long-said in
       record {
         key-length = long;
         tag-length = size;
@@ -88,9 +88,9 @@ module _ (key tag : List ℕ) (value : ℕ) (long : length key ≡ 32) (size : l
 
 -- a request that the host built with the counter's session key, and that checks 1 to 7 let through
 module _
-  (d : Device) (counter : ℕ) (key tag : List ℕ) (long : length key ≡ 32) (size : length tag ≡ 12)
-  (same : keyThere d (requestFrame counter key tag) ≡ key)
-  (taken : statusOnArrival (d .image) (d .state) (requestFrame counter key tag) ≡ 0) where
+    (d : Device) (counter : ℕ) (key tag : List ℕ) (long : length key ≡ 32) (size : length tag ≡ 12)
+    (same : keyThere d (requestFrame counter key tag) ≡ key)
+    (taken : statusOnArrival (d .image) (d .state) (requestFrame counter key tag) ≡ 0) where
   abbrev frame : List ℕ
   frame = requestFrame counter key tag
 

@@ -62,7 +62,7 @@ unfolding readReply judged signatureHolds
 good-only key tag reply e =
     let r = read-by (eqb (length key) 32) (eqb (length tag) 12) (eqb (length reply) 49) (judged key tag reply) e in
     let j = judged-by (eqb (getD reply 0 0 % 2) 1) (eqb (getD reply 0 0) 0x80) (sameBytes (field 1 12 reply) tag)
-        (signatureHolds key reply) (getD reply 0 0) (r .3) in
+    (signatureHolds key reply) (getD reply 0 0) (r .3) in
     record {
       key-length = eqb-true (length key) 32 (r .0);
       tag-length = eqb-true (length tag) 12 (r .1);
