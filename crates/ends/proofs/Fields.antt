@@ -11,12 +11,8 @@ use Rattle.hmac.specs.Hmac.{HMAC}
 use Rattle.checks.specs.Layout.{counterOf, field}
 use Rattle.checks.proofs.Fields.{field-part}
 use Rattle.arrival.specs.Arrival.{frameKept}
-use Rattle.rules.proofs.Hashing.{fourth, fourth-hmac, length-fourth}
+use Rattle.rules.proofs.Hashing.{length-HMAC}
 use Rattle.host.specs.Frames.{head, signedBy}
-
--- a digest has 32 bytes
-pub length-HMAC : (key message : List ℕ) → length key ≡ 32 → length message ≤ 55 → length (HMAC key message) ≡ 32
-length-HMAC key message k m = sym (ap length (fourth-hmac key message [] [] k m)) ∙ length-fourth key message [] []
 
 -- the field behind x that is y
 pub field-between :

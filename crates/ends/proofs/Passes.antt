@@ -19,7 +19,8 @@ use Rattle.arrival.specs.Arrival.{frameKept}
 use Rattle.device.specs.Work.{Device}
 use Rattle.rules.specs.Whole.{keyThere, signature}
 use Rattle.host.specs.Frames.{head, sessionKey, rootKeyFrame, sessionKeyFrame, incrementFrame, requestFrame}
-use Rattle.ends.proofs.Fields.{length-HMAC, field-between, field-behind, kept-field, counter-sent, front-sent, data-sent, signature-sent}
+use Rattle.rules.proofs.Hashing.{length-HMAC}
+use Rattle.ends.proofs.Fields.{field-between, field-behind, kept-field, counter-sent, front-sent, data-sent, signature-sent}
 
 -- check 8 of a frame that has this signature
 abbrev Passes : Command → Device → List ℕ → Type 0

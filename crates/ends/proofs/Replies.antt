@@ -29,7 +29,8 @@ use Rattle.host.specs.Frames.{signedBy, requestFrame}
 use Rattle.host.specs.declared.Verdict.the-variants.{Good}
 use Rattle.host.specs.Reading.{readReply, partOf}
 use Rattle.host.proofs.Verdicts.{GoodReply, good-read}
-use Rattle.ends.proofs.Fields.{length-HMAC, field-between, field-behind, data-sent}
+use Rattle.rules.proofs.Hashing.{length-HMAC}
+use Rattle.ends.proofs.Fields.{field-between, field-behind, data-sent}
 use Rattle.ends.proofs.Passes.{request-passes}
 
 abbrev shown : List ℕ → Reply

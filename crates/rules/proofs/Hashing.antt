@@ -1,8 +1,8 @@
 -- The hash steps of a job: after four of them the state holds the HMAC of its key and message. Assumes nothing.
 use Prim.Native.Nat.{ℕ, _≤_}
-use mathlib.Core.Path.{_≡_, refl, sym}
+use mathlib.Core.Path.{_≡_, refl, ap, sym, _∙_}
 use mathlib.Core.Bool.{true, false}
-use mathlib.Core.List.{List}
+use mathlib.Core.List.{List, []}
 use native.Mathlib.Omega.{arith}
 use lib.ListN.{length}
 use Rattle.words.specs.Choice.{pick}
@@ -79,6 +79,9 @@ unfolding fourth
 length-fourth key message chain inner =
     let eight : length (fourth key message chain inner) ≡ 8 = length-chain InnerDigest key message _ _ in
     omega (arith, length-spread bytesOf 4 (λ w. refl) (fourth key message chain inner), eight)
+
+pub length-HMAC : (key message : List ℕ) → length key ≡ 32 → length message ≤ 55 → length (HMAC key message) ≡ 32
+length-HMAC key message k m = sym (ap length (fourth-hmac key message [] [] k m)) ∙ length-fourth key message [] []
 
 -- the first four steps of a job, of a key and a message that stay the same
 module _ (image : List ℕ) (keys : List Key) (counter : ℕ) (frame root chain made inner : List ℕ) (kept : ℕ) where

@@ -30,10 +30,10 @@ use Rattle.rules.proofs.Storing.{stored-root-and-counter, stored-root, 
 use Rattle.rules.proofs.Ended.{ended}
 
 -- a message of a frame's field fits one block
-short : (at n : ℕ) (s : List ℕ) → n ≤ 55 → length (field at n s) ≤ 55
+pub short : (at n : ℕ) (s : List ℕ) → n ≤ 55 → length (field at n s) ≤ 55
 short at n s h = rw (length-table (λ i. getD s (at + i) 0) n) h
 
-length-root : (image : List ℕ) (counter : ℕ) → length (rootKey image counter) ≡ 32
+pub length-root : (image : List ℕ) (counter : ℕ) → length (rootKey image counter) ≡ 32
 unfolding rootKey
 length-root image counter =
     either (λ (key : List ℕ). length key ≡ 32) _ _ _ (λ e. length-table _ 32) (λ e. length-replicate {A = ℕ} 32 255)
@@ -172,19 +172,19 @@ module _ (d : Device) (frame : List ℕ) (formed : length (keyThere d frame) ≡
   whole-kind Request = whole-request
 
 -- a frame that fails on arrival starts no job
-not-taken :
+pub not-taken :
     (d : Device) (frame : List ℕ) (status : ℕ) → d .state .job .there ≡ false →
     run 15 (device (d .image) (taken (d .state) status (d .state .job))) ≡ device (d .image) (taken (d .state) status (d .state .job))
 unfolding isRunning taken pick
 not-taken d frame status idle = run-idle 15 _ (rw idle)
 
-arrived-fails :
+pub arrived-fails :
     (image : List ℕ) (s : State) (frame : List ℕ) → eqb (statusOnArrival image s frame) 0 ≡ false →
     arrived image s frame ≡ taken s (statusOnArrival image s frame) (s .job)
 unfolding arrived pick
 arrived-fails image s frame e = rw e
 
-arrived-starts :
+pub arrived-starts :
     (image : List ℕ) (s : State) (frame : List ℕ) → eqb (statusOnArrival image s frame) 0 ≡ true →
     arrived image s frame ≡ taken s 0x01 (jobOf image frame)
 unfolding arrived pick

@@ -1,0 +1,275 @@
+-- One call more: what holds along an order of calls holds after it. Assumes nothing.
+use Prim.Native.Nat.{ℕ, zero, suc, _+_, _<_}
+use mathlib.Core.Path.{_≡_, refl, ap, sym, subst, _∙_}
+use mathlib.Core.Logic.{_⊎_, inl, inr, ⊎-elim}
+use mathlib.Core.Bool.{Bool, true, false}
+use mathlib.Core.List.{List, []}
+use native.Mathlib.Nat.{zero-sub}
+use native.Mathlib.Omega.{arith}
+use borrow.Author.Tests.{eqb-true, lt-ltb}
+use lib.Dec.{ltb, eqb}
+use lib.ListN.{length, getD, take, replicate}
+use Rattle.words.specs.Choice.{pick}
+use Rattle.words.proofs.Choice.{never, either}
+use Rattle.image.specs.Header.{count}
+use Rattle.image.specs.Refusal.{refusal}
+use Rattle.frames.specs.declared.Class.{Class}
+use Rattle.frames.specs.declared.Class.the-variants.{Empty, EnableReset, Reset, Read, Command, Unnamed}
+use Rattle.frames.specs.Classes.{classOf}
+use Rattle.checks.specs.Layout.{counterOf}
+use Rattle.checks.specs.Jobs.{lengthOf, commandOf, hashSteps}
+use Rattle.checks.specs.declared.Kind.{Kind}
+use Rattle.checks.specs.declared.Kind.the-variants.{RootKeyAndCounter, RootKey, CounterOnly, Nothing, SessionKey, Increment, Request}
+use Rattle.state.specs.declared.Key.{Key}
+use Rattle.state.specs.declared.State.{State}
+use Rattle.state.specs.Parts.{noKey, powerOn}
+use Rattle.state.specs.Refusal.{isRunning, jobRefusal, deviceRefusal}
+use Rattle.arrival.specs.Arrival.{frameKept, statusOnArrival, jobOf, taken, arrived}
+use Rattle.device.specs.Frame.{withEnabled, stateAfter}
+use Rattle.device.specs.Work.{Device, run, stepsDone}
+use Rattle.device.specs.Calls.{device, poweredUp, afterFrame, afterSteps, afterWork, imageAfterWork}
+use Rattle.rules.specs.Whole.{Outcome, outcome, kindIn, allStored, whole}
+use Rattle.rules.proofs.Runs.{run-idle, run-add}
+use Rattle.rules.proofs.RunsWhole.{arrived-starts, arrived-fails, runs-whole}
+use Rattle.promises.specs.Compared.{Alike}
+use Rattle.promises.specs.Orders.{Call, PowerUp, Frame, Work, called}
+use Rattle.promises.specs.Account.{Account, isBusy, idle, goneBy, worked, interrupted, restarted, cut, framed, accounted}
+use Rattle.promises.proofs.Slots.{SameHeader, same-header, then-header, back-header, same-laid}
+use Rattle.promises.proofs.Taken.{below-count}
+use Rattle.promises.proofs.WholeOwn.{Formed, whole-kept}
+use Rattle.promises.proofs.Progress.{At, no-job-idle, runs, progress}
+use Rattle.promises.proofs.Enabled.{enabledAs, run-same}
+use Rattle.promises.proofs.Alikes.{whole-formed, alike-whole}
+use Rattle.promises.proofs.Ends.{same-end}
+use Rattle.promises.proofs.Sound.{accepted-laid, same-refusal, Resting, started, Working, Sound}
+use Rattle.promises.proofs.Interrupted.{Left, header-as-if, left-behind}
+
+-- the power-on state is formed
+no-key : (n k : ℕ) → getD (replicate n noKey) k noKey ≡ noKey
+no-key zero k = refl
+no-key (suc n) zero = refl
+no-key (suc n) (suc k) = no-key n k
+
+pub formed-on : (image : List ℕ) → refusal image ≡ 0 → Formed image (powerOn .keys)
+formed-on image accepted =
+    record { laid = accepted-laid image accepted; four = refl; long = λ k. ap (λ (key : Key). length (key .bytes)) (no-key 4 k) }
+
+-- what is as if, as a device
+formed-as-if : (d : Device) (o : Outcome) → Formed (d .image) (d .state .keys) → SameHeader (d .image) (o .image) → Alike (outcome d) o → Formed (o .image) (o .keys)
+formed-as-if d o formed header alike =
+    record {
+      laid = same-laid (o .image) (d .image) (back-header (d .image) (o .image) header) (formed .laid);
+      four = ap length (sym (alike .keys)) ∙ formed .four;
+      long = λ k. ap (λ (keys : List Key). length (getD keys k noKey .bytes)) (sym (alike .keys)) ∙ formed .long k;
+    }
+
+-- a frame has run whole: it found a device that was as if, and the device has come to the whole-frame result
+module _
+    (d : Device) (frame : List ℕ) (o : Outcome) (formed : Formed (d .image) (d .state .keys)) (header : SameHeader (d .image) (o .image))
+    (alike : Alike (outcome d) o) (after : Device) (result : outcome after ≡ whole d frame) where
+  image-after : after .image ≡ whole d frame .image
+  image-after = ap (λ (p : Outcome). p .image) result
+
+  header-after : SameHeader (after .image) (d .image)
+  header-after = subst (λ (i : List ℕ). SameHeader i (d .image)) (sym image-after) (whole-kept d frame (formed .laid) .header)
+
+  ended : after .state .job .there ≡ false → Resting (record { device = after; asIf = whole (idle o) frame; frame = frame })
+  ended none =
+      let formed-o = formed-as-if d o formed header alike in
+      record {
+        formed = subst (λ (p : Outcome). Formed (p .image) (p .keys)) (sym result) (whole-formed d frame formed);
+        none = none;
+        header =
+            then-header (after .image) (d .image) _ header-after
+            (then-header (d .image) (o .image) _ header
+            (back-header _ (o .image) (whole-kept (idle o) frame (formed-o .laid) .header)));
+        alike = subst (λ (p : Outcome). Alike p (whole (idle o) frame)) (sym result) (alike-whole frame d (idle o) formed formed-o header alike);
+      }
+
+-- the image is accepted as it stands
+pub accepted-now : (a : Account) → Sound a → refusal (a .device .image) ≡ 0
+accepted-now a sound =
+    ⊎-elim (λ r. same-refusal (a .device .image) (a .asIf .image) (r .header))
+    (λ w. same-refusal (a .device .image) (a .asIf .image) (header-as-if a w)) (sound .state)
+    ∙ sound .accepted
+
+accepted-whole : (o : Outcome) (frame : List ℕ) → refusal (o .image) ≡ 0 → refusal (whole (idle o) frame .image) ≡ 0
+accepted-whole o frame accepted =
+    same-refusal _ (o .image) (whole-kept (idle o) frame (accepted-laid (o .image) accepted) .header) ∙ accepted
+
+-- reset-enable goes on or off, and nothing else changes
+pub enabled-only : (b : Bool) (a : Account) → Sound a → Sound (goneBy (enabledAs b (a .device)) a)
+unfolding withEnabled
+enabled-only b a sound =
+    record { accepted = sound .accepted; state = ⊎-elim (λ r. inl (resting r)) (λ w. inr (working w)) (sound .state) }
+  where
+    resting : Resting a → Resting (goneBy (enabledAs b (a .device)) a)
+    resting r = record { formed = r .formed; none = r .none; header = r .header; alike = r .alike }
+
+    working : Working a → Working (goneBy (enabledAs b (a .device)) a)
+    working w =
+        record {
+          found = w .found;
+          steps = w .steps;
+          enabled = b;
+          formed = w .formed;
+          none = w .none;
+          header = w .header;
+          alike = w .alike;
+          passed = w .passed;
+          now = ap (enabledAs b) (w .now);
+          at =
+              record {
+                there = w .at .there;
+                kind-kept = w .at .kind-kept;
+                counter-kept = w .at .counter-kept;
+                frame-kept = w .at .frame-kept;
+                step = w .at .step;
+                stored-so-far = w .at .stored-so-far;
+              };
+          left = w .left;
+        }
+
+-- nothing is interrupted where no job is
+nothing-left : (a : Account) → Resting a → Left (a .device .image) (interrupted a)
+unfolding interrupted pick
+nothing-left a r =
+    let same : interrupted a ≡ a .asIf = rw (r .none) in
+    subst (Left (a .device .image)) (sym same) (record { header = r .header; counters = r .alike .counters })
+
+-- a reset or a power cut
+pub cut-off : (a : Account) → Sound a → Sound (cut (device (a .device .image) powerOn) a)
+cut-off a sound =
+    let left = ⊎-elim {C = Left (a .device .image) (interrupted a)} (nothing-left a) (left-behind a) (sound .state) in
+    record {
+      accepted = sym (same-refusal (a .device .image) _ (left .header)) ∙ accepted-now a sound;
+      state =
+          inl
+          (record {
+            formed = formed-on (a .device .image) (accepted-now a sound);
+            none = refl;
+            header = left .header;
+            alike = record { status = refl; reply = refl; keys = refl; counters = left .counters };
+          });
+    }
+
+-- a frame's job runs, or it has ended
+worked-on : (after : Device) (frame : List ℕ) (a : Account) → isBusy after ≡ true → worked after frame a ≡ record { device = after; asIf = a .asIf; frame = frame }
+unfolding pick
+worked-on after frame a e = ap (λ (o : Outcome). record { device = after; asIf = o; frame = frame }) (picked e)
+  where
+    picked : isBusy after ≡ true → pick (isBusy after) (a .asIf) (whole (idle (a .asIf)) frame) ≡ a .asIf
+    picked e = rw e
+
+worked-out :
+    (after : Device) (frame : List ℕ) (a : Account) → isBusy after ≡ false →
+    worked after frame a ≡ record { device = after; asIf = whole (idle (a .asIf)) frame; frame = frame }
+unfolding pick
+worked-out after frame a e = ap (λ (o : Outcome). record { device = after; asIf = o; frame = frame }) (picked e)
+  where
+    picked : isBusy after ≡ false → pick (isBusy after) (a .asIf) (whole (idle (a .asIf)) frame) ≡ whole (idle (a .asIf)) frame
+    picked e = rw e
+
+-- no kind of job is without steps
+some-steps : (kind : Kind) → 0 < lengthOf kind
+some-steps RootKeyAndCounter = omega arith
+some-steps RootKey = omega arith
+some-steps CounterOnly = omega arith
+some-steps Nothing = omega arith
+some-steps SessionKey = omega arith
+some-steps Increment = omega arith
+some-steps Request = omega arith
+
+-- a command frame that finds the device idle
+module _ (a : Account) (accepted : refusal (a .asIf .image) ≡ 0) (r : Resting a) (frame : List ℕ) where
+  abbrev d : Device
+  d = a .device
+
+  at-start : At (kindIn d frame) (counterOf frame) (frameKept frame) (d .image) 0 (d .image) (taken (d .state) 0x01 (jobOf (d .image) frame))
+  unfolding taken jobOf allStored
+  at-start =
+      record {
+        there = refl;
+        kind-kept = refl;
+        counter-kept = refl;
+        frame-kept = refl;
+        step = refl;
+        stored-so-far = rw (zero-sub (hashSteps (commandOf (kindIn d frame))));
+      }
+
+  pub taken-by : (b : Bool) → eqb (statusOnArrival (d .image) (d .state) frame) 0 ≡ b → Sound (worked (started d frame) frame a)
+  unfolding taken jobOf withEnabled run allStored
+  taken-by true e =
+      let arrives = arrived-starts (d .image) (d .state) frame e in
+      let busy : isBusy (started d frame) ≡ true = ap (λ (s : State). s .job .there) arrives in
+      subst Sound (sym (worked-on (started d frame) frame a busy))
+      (record {
+        accepted = accepted;
+        state =
+            inr
+            (record {
+              found = d;
+              steps = 0;
+              enabled = false;
+              formed = r .formed;
+              none = r .none;
+              header = r .header;
+              alike = r .alike;
+              passed = eqb-true _ 0 e;
+              now = ap (device (d .image)) (arrives ∙ sym (ap (λ (s : State). withEnabled s false) arrives));
+              at =
+                  subst (At (kindIn d frame) (counterOf frame) (frameKept frame) (d .image) 0 (d .image)) (sym arrives) at-start;
+              left = some-steps (kindIn d frame);
+            });
+      })
+  taken-by false e =
+      let arrives = arrived-fails (d .image) (d .state) frame e in
+      let none : isBusy (started d frame) ≡ false = ap (λ (s : State). s .job .there) arrives ∙ r .none in
+      let result : outcome (started d frame) ≡ whole d frame =
+      ap outcome (sym (run-idle 15 (started d frame) (no-job-idle (started d frame .state) none)))
+      ∙ runs-whole d frame (r .none) (r .formed .long (counterOf frame)) in
+      subst Sound (sym (worked-out (started d frame) frame a none))
+      (record { accepted = accepted-whole (a .asIf) frame accepted; state = inl (ended d frame (a .asIf) (r .formed) (r .header) (r .alike) (started d frame) result none) })
+
+-- the steps of a work call
+module _ (a : Account) (w : Working a) where
+  abbrev start : Device
+  start = started (w .found) (a .frame)
+
+  now-after : (m : ℕ) → run m (a .device) ≡ enabledAs (w .enabled) (run (m + w .steps) start)
+  now-after m =
+      ap (run m) (w .now) ∙ run-same (w .enabled) m (run (w .steps) start) ∙ ap (enabledAs (w .enabled)) (sym (run-add m (w .steps) start))
+
+  pub worked-by : (m : ℕ) → refusal (a .asIf .image) ≡ 0 → (b : Bool) → isBusy (run m (a .device)) ≡ b → Sound (worked (run m (a .device)) (a .frame) a)
+  unfolding withEnabled
+  worked-by m accepted true e =
+      let on = progress (kindIn (w .found) (a .frame)) (counterOf (a .frame)) (frameKept (a .frame)) (w .found .image) (w .steps) (a .device) (w .at) (w .left) m e in
+      subst Sound (sym (worked-on (run m (a .device)) (a .frame) a e))
+      (record {
+        accepted = accepted;
+        state =
+            inr
+            (record {
+              found = w .found;
+              steps = m + w .steps;
+              enabled = w .enabled;
+              formed = w .formed;
+              none = w .none;
+              header = w .header;
+              alike = w .alike;
+              passed = w .passed;
+              now = now-after m;
+              at = on .0;
+              left = on .1;
+            });
+      })
+  worked-by m accepted false e =
+      let none : isBusy (run (m + w .steps) start) ≡ false = sym (ap isBusy (now-after m)) ∙ e in
+      let end = same-end (m + w .steps) start (no-job-idle (run (m + w .steps) start .state) none) in
+      let result : outcome (run m (a .device)) ≡ whole (w .found) (a .frame) =
+      ap outcome (now-after m) ∙ ap outcome end ∙ runs-whole (w .found) (a .frame) (w .none) (w .formed .long (counterOf (a .frame))) in
+      subst Sound (sym (worked-out (run m (a .device)) (a .frame) a e))
+      (record {
+        accepted = accepted-whole (a .asIf) (a .frame) accepted;
+        state = inl (ended (w .found) (a .frame) (a .asIf) (w .formed) (w .header) (w .alike) (run m (a .device)) result e);
+      })

@@ -1,0 +1,71 @@
+-- What is compared of a counter, as its slot's 48 bytes show it, before and after stores. Assumes nothing.
+use Prim.Native.Nat.{ℕ, _+_, _*_, _/_, _%_, _≤_, _<_}
+use mathlib.Core.Path.{_≡_, refl, ap, sym, _∙_}
+use mathlib.Core.Bool.{Bool, true, false}
+use mathlib.Core.List.{List, [], _∷_}
+use native.Mathlib.Omega.{arith}
+use borrow.Author.Tests.{le-leb, leb-true}
+use lib.Dec.{leb}
+use lib.ListN.{length, getD, replicate}
+use Rattle.words.specs.Choice.{pick}
+use Rattle.words.specs.Table.{table, spread}
+use Rattle.words.specs.Words.{wordOf, wordAt, wordOr0, bytesOfAll, putWord}
+use Rattle.words.proofs.Choice.{both}
+use Rattle.words.proofs.Table.{table-same, getD-table}
+use Rattle.image.specs.Header.{count, offset, slotAt}
+use Rattle.image.specs.Slot.{slotOf, isSet, rootKey}
+use Rattle.checks.specs.Layout.{field}
+use Rattle.checks.specs.declared.Kind.{Kind}
+use Rattle.checks.specs.declared.Kind.the-variants.{RootKeyAndCounter, RootKey, CounterOnly, Nothing, SessionKey, Increment, Request}
+use Rattle.plan.specs.declared.Store.{Store}
+use Rattle.plan.specs.Stores.{keyStores, stores}
+use Rattle.steps.specs.Step.{stored}
+use Rattle.rules.specs.Whole.{allStored}
+use Rattle.promises.specs.Compared.{Counter, counterIn}
+use Rattle.promises.proofs.Slots.{SameHeader, Laid, same-laid, place, slotBytes, header-stored, slot-stored, slot-other}
+
+-- read from a slot's bytes
+unfoldable pub readCounter : List ℕ → Counter
+readCounter b =
+    record {
+      root = wordAt b 0;
+      counter = wordAt b 4;
+      value = pick (isSet (wordAt b 4)) (wordAt b 8) 0;
+      key = pick (isSet (wordAt b 0)) (field 16 32 b) (replicate 32 255);
+    }
+
+-- a word of a field of 48 bytes
+word-in : (image : List ℕ) (p k : ℕ) → k + 4 ≤ 48 → p + 48 ≤ length image → wordOr0 image (p + k) ≡ wordAt (field p 48 image) k
+unfolding pick
+word-in image p k h fits =
+    let byte : (m : ℕ) → m < 4 → getD (field p 48 image) (k + m) 0 ≡ getD image (p + k + m) 0 =
+    λ m l. getD-table (λ i. getD image (p + i) 0) 48 (k + m) 0 (omega arith) ∙ ap (λ (i : ℕ). getD image i 0) (omega arith) in
+    let byte₀ : getD (field p 48 image) k 0 ≡ getD image (p + k) 0 = getD-table (λ i. getD image (p + i) 0) 48 k 0 (omega arith) in
+    rw (le-leb (p + k + 4) (length image) (omega arith), byte₀, byte 1 (omega arith), byte 2 (omega arith), byte 3 (omega arith))
+
+module _ (image : List ℕ) (c : ℕ) (laid : Laid image) (below : c < count image) where
+  room : slotAt image c + 48 ≤ length image
+  room = let p = place image c laid in omega (arith, p, laid .fits)
+
+  pub root-in : slotOf image c .root ≡ wordAt (slotBytes image c) 0
+  unfolding slotOf
+  root-in = ap (wordOr0 image) (omega arith) ∙ word-in image (slotAt image c) 0 (omega arith) room
+
+  pub counter-in : slotOf image c .counter ≡ wordAt (slotBytes image c) 4
+  unfolding slotOf
+  counter-in = word-in image (slotAt image c) 4 (omega arith) room
+
+  value-in : slotOf image c .value ≡ wordAt (slotBytes image c) 8
+  unfolding slotOf
+  value-in = word-in image (slotAt image c) 8 (omega arith) room
+
+  key-in : table (λ i. getD image (slotAt image c + 16 + i) 0) 32 ≡ field 16 32 (slotBytes image c)
+  key-in =
+      sym
+      (table-same _ _ 32
+      (λ i l.
+      getD-table (λ j. getD image (slotAt image c + j) 0) 48 (16 + i) 0 (omega arith) ∙ ap (λ (j : ℕ). getD image j 0) (omega arith)))
+
+  pub counter-read : counterIn image c ≡ readCounter (slotBytes image c)
+  unfolding counterIn readCounter rootKey
+  counter-read = rw (root-in, counter-in, value-in, key-in)

@@ -1,0 +1,93 @@
+-- It ends: after 15 steps no job runs, and a device in which none runs stays as it is. Assumes nothing.
+use Prim.Native.Nat.{ℕ, zero, suc, _+_, _≤_, _<_}
+use mathlib.Core.Path.{_≡_, refl, ap, sym, _∙_}
+use mathlib.Core.Logic.{⊎-elim}
+use mathlib.Core.Bool.{Bool, true, false}
+use native.Mathlib.Numerals.{add-one}
+use native.Mathlib.Omega.{arith}
+use borrow.Author.Tests.{ltb-true, ltb-false}
+use lib.Dec.{leb}
+use Rattle.words.specs.Choice.{pick}
+use Rattle.words.proofs.Choice.{never, either}
+use Rattle.state.specs.Refusal.{isRunning}
+use Rattle.state.proofs.Running.{at-most-15, step-left}
+use Rattle.steps.specs.Step.{stepState}
+use Rattle.device.specs.Work.{Device, stepped, run, within, stepsLeft, stepsDone}
+use Rattle.device.proofs.Ends.{rest, step-less, bound-runs}
+use Rattle.rules.proofs.Runs.{stepped-idle, run-idle, run-add}
+
+-- where a job runs after a step, one ran before it
+ran-by : (d : Device) → isRunning (stepped d .state) ≡ true → (b : Bool) → isRunning (d .state) ≡ b → isRunning (d .state) ≡ true
+ran-by d e true p = p
+ran-by d e false p = absurd (never (sym p ∙ sym (ap (λ (x : Device). isRunning (x .state)) (stepped-idle d p)) ∙ e))
+
+ran : (d : Device) → isRunning (stepped d .state) ≡ true → isRunning (d .state) ≡ true
+ran d e = ran-by d e _ refl
+
+-- the steps left of a job that still runs after n steps
+left-after : (n : ℕ) (d : Device) → isRunning (run n d .state) ≡ true → rest (run n d .state) + n ≤ 15
+unfolding run stepped
+left-after zero d e = omega (arith, at-most-15 (d .state .job .kind))
+left-after (suc n) d e =
+    let before = ran (run n d) e in
+    let less = step-less (run n d .image) (run n d .state) before in
+    omega (arith, left-after n d before, less, bound-runs (stepState (run n d .image) (run n d .state)) e)
+
+idle-by : (d : Device) (b : Bool) → isRunning (run 15 d .state) ≡ b → isRunning (run 15 d .state) ≡ false
+idle-by d true e = absurd (omega (arith, left-after 15 d e, step-left (run 15 d .state) e))
+idle-by d false e = e
+
+-- a job is idle again after at most 15 steps
+pub ends : (d : Device) → isRunning (run 15 d .state) ≡ false
+ends d = idle-by d _ refl
+
+-- a device that is idle after some steps is the same after as many or more
+idle-after : (m n : ℕ) (d : Device) → isRunning (run n d .state) ≡ false → run (m + n) d ≡ run n d
+idle-after m n d e = run-add m n d ∙ run-idle m (run n d) e
+
+-- so it is the same whenever it is idle
+pub same-end : (n : ℕ) (d : Device) → isRunning (run n d .state) ≡ false → run n d ≡ run 15 d
+same-end n d e =
+    let e₁ : 15 + n ≡ n + 15 = omega arith in
+    sym (idle-after 15 n d e) ∙ rw e₁ (idle-after n 15 d (ends d))
+
+-- the steps left lead to the end of the job
+run-first : (n : ℕ) (d : Device) → run (suc n) d ≡ run n (stepped d)
+unfolding run
+run-first zero d = refl
+run-first (suc n) d = ap stepped (run-first n d)
+
+within-most : (n : ℕ) (d : Device) → within n d ≤ n
+unfolding within
+within-most zero d = omega arith
+within-most (suc n) d =
+    let most = within-most n (stepped d) in
+    either (λ (m : ℕ). m ≤ suc n) (isRunning (d .state)) _ 0 (λ _. omega (arith, most)) (λ _. omega arith)
+
+-- where the job still runs after the steps that were counted, counting stopped for want of more
+within-by :
+    (n : ℕ) (d : Device) → (isRunning (run (within n (stepped d)) (stepped d) .state) ≡ true → within n (stepped d) ≡ n) →
+    (b : Bool) → isRunning (d .state) ≡ b → isRunning (run (pick b (suc (within n (stepped d))) 0) d .state) ≡ true →
+    pick b (suc (within n (stepped d))) 0 ≡ suc n
+unfolding pick run
+within-by n d rest true p e =
+    ap suc (rest (sym (ap (λ (x : Device). isRunning (x .state)) (run-first (within n (stepped d)) d)) ∙ e))
+within-by n d rest false p e = absurd (never (sym p ∙ e))
+
+within-ends : (n : ℕ) (d : Device) → isRunning (run (within n d) d .state) ≡ true → within n d ≡ n
+unfolding within
+within-ends zero d e = refl
+within-ends (suc n) d e = within-by n d (within-ends n (stepped d)) (isRunning (d .state)) refl e
+
+left-ends-by : (d : Device) (b : Bool) → isRunning (run (stepsLeft d) d .state) ≡ b → isRunning (run (stepsLeft d) d .state) ≡ false
+unfolding stepsLeft
+left-ends-by d true e =
+    absurd (never (sym (ends d) ∙ ap (λ (n : ℕ). isRunning (run n d .state)) (sym (within-ends 15 d e)) ∙ e))
+left-ends-by d false e = e
+
+-- so a work call with a quota of 15 or more leaves no job running
+pub work-ends : (quota : ℕ) (d : Device) → 15 ≤ quota → isRunning (run (stepsDone quota d) d .state) ≡ false
+unfolding stepsLeft
+work-ends quota d h =
+    let all : stepsDone quota d ≡ stepsLeft d = omega (arith, within-most 15 d) in
+    rw all (left-ends-by d _ refl)

@@ -1,0 +1,177 @@
+-- Demand 3, first half: whatever the order of calls, once idle the device is as if the frames that found it idle had run whole.
+-- Assumes nothing.
+use Prim.Native.Nat.{ℕ, _<_}
+use mathlib.Core.Path.{_≡_, refl, ap, sym, subst, _∙_}
+use mathlib.Core.Logic.{⊎-elim, inl}
+use mathlib.Core.Bool.{Bool, true, false}
+use mathlib.Core.List.{List, [], _∷_}
+use borrow.Author.Tests.{lt-ltb}
+use lib.Dec.{ltb}
+use Rattle.words.specs.Choice.{pick}
+use Rattle.words.proofs.Choice.{never, either}
+use Rattle.image.specs.Header.{count}
+use Rattle.image.specs.Refusal.{refusal}
+use Rattle.frames.specs.declared.Class.{Class}
+use Rattle.frames.specs.declared.Class.the-variants.{Empty, EnableReset, Reset, Read, Command, Unnamed}
+use Rattle.frames.specs.Classes.{classOf}
+use Rattle.checks.specs.Layout.{counterOf}
+use Rattle.checks.specs.Jobs.{lengthOf}
+use Rattle.state.specs.Parts.{powerOn}
+use Rattle.state.specs.Refusal.{isRunning, jobRefusal, deviceRefusal}
+use Rattle.arrival.specs.Arrival.{arrived}
+use Rattle.device.specs.Frame.{withEnabled, stateAfter}
+use Rattle.device.specs.Work.{Device, run, stepsDone}
+use Rattle.device.specs.Calls.{device, poweredUp, afterFrame, afterSteps, afterWork, imageAfterWork}
+use Rattle.rules.specs.Whole.{outcome}
+use Rattle.rules.proofs.Runs.{run-idle}
+use Rattle.promises.specs.Compared.{Alike}
+use Rattle.promises.specs.Orders.{Call, PowerUp, Frame, Work, called, numberOf, allCalled}
+use Rattle.promises.specs.Account.{Account, isBusy, goneBy, worked, cut, framed, accounted, account, begun}
+use Rattle.promises.proofs.Slots.{same-header}
+use Rattle.promises.proofs.Taken.{below-count}
+use Rattle.promises.proofs.Progress.{no-job-idle, runs}
+use Rattle.promises.proofs.Sound.{Resting, started, Working, Sound}
+use Rattle.promises.proofs.Interrupted.{below-now}
+use Rattle.promises.proofs.Calls.{formed-on, accepted-now, enabled-only, cut-off, taken-by, worked-by}
+
+-- no call is refused
+module _ (a : Account) (sound : Sound a) where
+  abbrev d : Device
+  d = a .device
+
+  job-fits : Resting a → jobRefusal (count (d .image)) (d .state) ≡ 0
+  unfolding jobRefusal pick
+  job-fits r = rw (r .none)
+
+  job-fits-working : Working a → jobRefusal (count (d .image)) (d .state) ≡ 0
+  unfolding jobRefusal pick
+  job-fits-working w =
+      rw (
+        runs _ _ _ _ _ (d .image) (d .state) (w .at) (w .left),
+        w .at .there,
+        w .at .counter-kept,
+        lt-ltb (counterOf (a .frame)) (count (d .image)) (below-now a w),
+      )
+
+  pub not-refused : deviceRefusal (d .image) (d .state) ≡ 0
+  unfolding deviceRefusal pick
+  not-refused = rw (accepted-now a sound) (⊎-elim job-fits job-fits-working (sound .state))
+
+  pub frame-done : (bytes : List ℕ) → called (Frame bytes) d ≡ device (d .image) (stateAfter (classOf bytes) (d .image) (d .state) bytes)
+  unfolding afterFrame pick
+  frame-done bytes = rw not-refused
+
+  pub work-done : (quota : ℕ) → called (Work quota) d ≡ run (stepsDone quota d) d
+  unfolding afterWork imageAfterWork afterSteps pick
+  work-done quota = rw not-refused
+
+-- a frame, by its class
+module _ (a : Account) (sound : Sound a) (bytes : List ℕ) where
+  abbrev now : Device
+  now = a .device
+
+  after-reset :
+      (enabled : Bool) →
+      Sound
+      (pick enabled (cut (device (now .image) (pick enabled powerOn (withEnabled (now .state) false))) a)
+      (goneBy (device (now .image) (pick enabled powerOn (withEnabled (now .state) false))) a))
+  unfolding pick
+  after-reset true = cut-off a sound
+  after-reset false = enabled-only false a sound
+
+  after-command :
+      (busy : Bool) → isBusy now ≡ busy →
+      Sound
+      (pick busy (goneBy (device (now .image) (pick busy (withEnabled (now .state) false) (arrived (now .image) (now .state) bytes))) a)
+      (worked (device (now .image) (pick busy (withEnabled (now .state) false) (arrived (now .image) (now .state) bytes))) bytes a))
+  unfolding pick
+  after-command true e = enabled-only false a sound
+  after-command false e =
+      ⊎-elim (λ r. taken-by a (sound .accepted) r bytes _ refl) (λ w. absurd (never (sym e ∙ w .at .there))) (sound .state)
+
+  after-frame : (class : Class) → Sound (framed class bytes (device (now .image) (stateAfter class (now .image) (now .state) bytes)) a)
+  after-frame Empty = sound
+  after-frame EnableReset = enabled-only true a sound
+  after-frame Reset = after-reset (now .state .enabled)
+  after-frame Read = enabled-only false a sound
+  after-frame Command = after-command (isBusy now) refl
+  after-frame Unnamed = enabled-only false a sound
+
+  -- a work call that finds a job, or none
+  after-work : (m : ℕ) (busy : Bool) → isBusy now ≡ busy → Sound (pick busy (worked (run m now) (a .frame) a) (goneBy (run m now) a))
+  unfolding pick
+  after-work m true e =
+      ⊎-elim (λ r. absurd (never (sym (r .none) ∙ e))) (λ w. worked-by a w m (sound .accepted) _ refl) (sound .state)
+  after-work m false e = subst (λ (after : Device). Sound (goneBy after a)) (sym (run-idle m now (no-job-idle (now .state) e))) sound
+
+-- one call more
+pub next : (call : Call) (a : Account) → Sound a → Sound (accounted call a)
+unfolding poweredUp
+next PowerUp a sound = cut-off a sound
+next (Frame bytes) a sound =
+    subst (λ (after : Device). Sound (framed (classOf bytes) bytes after a)) (sym (frame-done a sound bytes))
+    (after-frame a sound bytes (classOf bytes))
+next (Work quota) a sound =
+    subst (λ (after : Device). Sound (pick (isBusy (a .device)) (worked after (a .frame) a) (goneBy after a))) (sym (work-done a sound quota))
+    (after-work a sound [] (stepsDone quota (a .device)) (isBusy (a .device)) refl)
+
+pub all-sound : (calls : List Call) (a : Account) → Sound a → Sound (account calls a)
+unfolding account
+all-sound [] a sound = sound
+all-sound (call ∷ more) a sound = all-sound more (accounted call a) (next call a sound)
+
+pub start-sound : (image : List ℕ) → refusal image ≡ 0 → Sound (begun image)
+start-sound image accepted =
+    record {
+      accepted = accepted;
+      state =
+          inl
+          (record {
+            formed = formed-on image accepted;
+            none = refl;
+            header = same-header image;
+            alike = record { status = refl; reply = refl; keys = refl; counters = λ c below. refl };
+          });
+    }
+
+-- Power up on an accepted image. After any order of calls, once idle, the device shows what it would show if the command frames
+-- that found it idle had run whole, in order, with resets and cuts where they fell.
+pub first-half :
+    (image : List ℕ) → refusal image ≡ 0 → (calls : List Call) → isBusy (account calls (begun image) .device) ≡ false →
+    Alike (outcome (account calls (begun image) .device)) (account calls (begun image) .asIf)
+first-half image accepted calls none =
+    ⊎-elim (λ r. r .alike) (λ w. absurd (never (sym none ∙ w .at .there))) (all-sound calls (begun image) (start-sound image accepted) .state)
+
+done : (call : Call) (a : Account) → Sound a → numberOf call (a .device) ≡ 0
+unfolding poweredUp afterFrame afterWork afterSteps pick
+done PowerUp a sound = accepted-now a sound
+done (Frame bytes) a sound =
+    let e : afterFrame (a .device .image) (a .device .state) bytes .number ≡ 0 = rw (not-refused a sound) in
+    e
+done (Work quota) a sound =
+    let e : afterWork (a .device) quota .number ≡ 0 = rw (not-refused a sound) in
+    e
+
+-- No call of the order is refused.
+pub none-refused :
+    (image : List ℕ) → refusal image ≡ 0 → (calls : List Call) (call : Call) → numberOf call (account calls (begun image) .device) ≡ 0
+none-refused image accepted calls call = done call (account calls (begun image)) (all-sound calls (begun image) (start-sound image accepted))
+
+-- the device of the account is the device
+pub same-device : (call : Call) (a : Account) → accounted call a .device ≡ called call (a .device)
+same-device PowerUp a = refl
+same-device (Frame bytes) a = by-class (classOf bytes)
+  where
+    by-class : (class : Class) → framed class bytes (called (Frame bytes) (a .device)) a .device ≡ called (Frame bytes) (a .device)
+    by-class Empty = refl
+    by-class EnableReset = refl
+    by-class Reset = either (λ (b : Account). b .device ≡ called (Frame bytes) (a .device)) _ _ _ (λ _. refl) (λ _. refl)
+    by-class Read = refl
+    by-class Command = either (λ (b : Account). b .device ≡ called (Frame bytes) (a .device)) _ _ _ (λ _. refl) (λ _. refl)
+    by-class Unnamed = refl
+same-device (Work quota) a = either (λ (b : Account). b .device ≡ called (Work quota) (a .device)) _ _ _ (λ _. refl) (λ _. refl)
+
+pub same-devices : (calls : List Call) (a : Account) → account calls a .device ≡ allCalled calls (a .device)
+unfolding account allCalled
+same-devices [] a = refl
+same-devices (call ∷ more) a = same-devices more (accounted call a) ∙ ap (allCalled more) (same-device call a)

@@ -1,0 +1,124 @@
+-- A frame reads its own counter and no other: devices that are the same to it come to the same. Assumes nothing.
+use Prim.Native.Nat.{ℕ, _<_}
+use mathlib.Core.Path.{_≡_, refl, ap, sym, _∙_}
+use mathlib.Core.Bool.{Bool, true, false}
+use mathlib.Core.List.{List, _++_}
+use native.Mathlib.Omega.{arith}
+use borrow.Author.Tests.{ltb-true, eqb-true, eqb-false}
+use lib.Dec.{ltb, eqb}
+use lib.ListN.{length, getD}
+use Rattle.words.specs.Choice.{pick}
+use Rattle.words.specs.Table.{table}
+use Rattle.words.proofs.Choice.{never}
+use Rattle.hmac.specs.Hmac.{HMAC}
+use Rattle.image.specs.Header.{count, slotAt}
+use Rattle.image.specs.declared.Slot.{Slot}
+use Rattle.image.specs.Slot.{slotOf, isSet, isBad, rootKey}
+use Rattle.checks.specs.Layout.{typeOf, counterOf, field}
+use Rattle.checks.specs.Checks.{shapeStatus, counterStatus, stateStatus, slotStatus, orElse, arrivalStatus}
+use Rattle.checks.specs.Jobs.{commandOf, rootKind, kindOf}
+use Rattle.checks.specs.declared.Kind.{Kind}
+use Rattle.checks.specs.declared.Kind.the-variants.{RootKeyAndCounter, RootKey, CounterOnly, Nothing, SessionKey, Increment, Request}
+use Rattle.verdict.specs.Verdict.{verdict}
+use Rattle.state.specs.declared.Key.{Key}
+use Rattle.state.specs.Parts.{sessionKey}
+use Rattle.arrival.specs.Arrival.{frameKept, isTemporary, statusOnArrival}
+use Rattle.device.specs.Work.{Device}
+use Rattle.rules.specs.Whole.{kindIn, valueIn, keyThere, newKey, signature, lastChecks, allChecks}
+use Rattle.promises.specs.Compared.{Counter, counterIn}
+use Rattle.promises.proofs.Slots.{SameHeader, Laid}
+use Rattle.promises.proofs.Taken.{Facts, below-count, facts}
+
+-- two devices that are the same to a frame: the header, its counter as it is compared, and its session key
+pub record SameTo (frame : List ℕ) (d e : Device) : Type 0 where
+  pub header : SameHeader (d .image) (e .image)
+  pub counter :
+      counterOf frame < count (d .image) → counterIn (d .image) (counterOf frame) ≡ counterIn (e .image) (counterOf frame)
+  pub session : sessionKey (d .state) (counterOf frame) ≡ sessionKey (e .state) (counterOf frame)
+
+-- a counter that is not below the count decides, whatever the slot
+beyond :
+    (t u : Bool) (shape after other : ℕ) → t ≡ false →
+    orElse shape (orElse (pick {A = ℕ} t 0 (pick u 0x06 0x04)) after) ≡ orElse shape (orElse (pick {A = ℕ} t 0 (pick u 0x06 0x04)) other)
+unfolding pick
+beyond true u shape after other e = absurd (never (sym e))
+beyond false true shape after other e = refl
+beyond false false shape after other e = refl
+
+module _ (frame : List ℕ) (d e : Device) (same : SameTo frame d e) where
+  abbrev c : ℕ
+  c = counterOf frame
+
+  pub key-there-same : keyThere d frame ≡ keyThere e frame
+  key-there-same = ap (λ (key : Key). key .bytes) (same .session)
+
+  root-same : c < count (d .image) → slotOf (d .image) c .root ≡ slotOf (e .image) c .root
+  unfolding counterIn
+  root-same below = ap (λ (p : Counter). p .root) (same .counter below)
+
+  counter-same : c < count (d .image) → slotOf (d .image) c .counter ≡ slotOf (e .image) c .counter
+  unfolding counterIn
+  counter-same below = ap (λ (p : Counter). p .counter) (same .counter below)
+
+  key-same : c < count (d .image) → rootKey (d .image) c ≡ rootKey (e .image) c
+  unfolding counterIn
+  key-same below = ap (λ (p : Counter). p .key) (same .counter below)
+
+  pub value-same : c < count (d .image) → isSet (slotOf (d .image) c .counter) ≡ true → slotOf (d .image) c .value ≡ slotOf (e .image) c .value
+  unfolding counterIn pick
+  value-same below set =
+      let shown = ap (λ (p : Counter). p .value) (same .counter below) in
+      let set' : isSet (slotOf (e .image) c .counter) ≡ true = rw (← counter-same below) set in
+      rw (set, set') at shown
+
+  arrival-by : (b : Bool) → ltb c (count (d .image)) ≡ b → statusOnArrival (d .image) (d .state) frame ≡ statusOnArrival (e .image) (e .state) frame
+  unfolding statusOnArrival arrivalStatus counterStatus slotStatus isBad
+  arrival-by true l =
+      let below = ltb-true c (count (d .image)) l in
+      rw (root-same below, counter-same below, same .session, same .header .counters)
+  arrival-by false l =
+      beyond (ltb c (count (d .image))) (eqb (typeOf frame) 0) (shapeStatus frame)
+      (slotStatus (typeOf frame) (slotOf (d .image) c) (sessionKey (d .state) c .there))
+      (slotStatus (typeOf frame) (slotOf (e .image) c) (sessionKey (e .state) c .there)) l
+      ∙ rw (same .header .counters)
+
+  -- checks 1 to 7 come to the same
+  pub arrival-same : statusOnArrival (d .image) (d .state) frame ≡ statusOnArrival (e .image) (e .state) frame
+  arrival-same = arrival-by _ refl
+
+  -- a frame that passes them
+  module _ (passed : statusOnArrival (d .image) (d .state) frame ≡ 0) where
+    below : c < count (d .image)
+    below = below-count d frame passed
+
+    pub kind-same : kindIn d frame ≡ kindIn e frame
+    kind-same = rw (counter-same below)
+
+    pub root-key-same : rootKey (d .image) c ≡ rootKey (e .image) c
+    root-key-same = key-same below
+
+    pub new-key-same : newKey d frame ≡ newKey e frame
+    new-key-same = rw root-key-same
+
+    -- checks 8 to 10 come to the same: the value is looked at only where the counter is set
+    last-of : (kind : Kind) → Facts kind (slotOf (d .image) c) → lastChecks (commandOf kind) d frame ≡ lastChecks (commandOf kind) e frame
+    unfolding lastChecks verdict
+    last-of RootKeyAndCounter known = refl
+    last-of RootKey known = refl
+    last-of CounterOnly known = refl
+    last-of Nothing known = refl
+    last-of SessionKey known = rw root-key-same
+    last-of Increment known = rw (key-there-same, value-same below known)
+    last-of Request known = rw key-there-same
+
+    pub last-same : lastChecks (commandOf (kindIn d frame)) d frame ≡ lastChecks (commandOf (kindIn e frame)) e frame
+    last-same = last-of (kindIn d frame) (facts d frame passed) ∙ ap (λ (kind : Kind). lastChecks (commandOf kind) e frame) kind-same
+
+  -- all checks come to the same
+  checks-by : (b : Bool) → eqb (statusOnArrival (d .image) (d .state) frame) 0 ≡ b → allChecks d frame ≡ allChecks e frame
+  unfolding allChecks pick
+  checks-by true p = rw (← arrival-same, p) (last-same (eqb-true _ 0 p))
+  checks-by false p = rw (← arrival-same, p)
+
+  pub checks-same : allChecks d frame ≡ allChecks e frame
+  checks-same = checks-by _ refl

@@ -1,0 +1,195 @@
+-- A frame run whole: it changes its own counter and session key alone, and by what is compared of them alone. Assumes nothing.
+use Prim.Native.Nat.{ℕ, _+_, _<_}
+use mathlib.Core.Path.{_≡_, refl, ap, sym, _∙_}
+use mathlib.Core.Bool.{Bool, true, false}
+use mathlib.Core.List.{List}
+use native.Mathlib.Omega.{arith}
+use borrow.Author.Tests.{eqb-true}
+use lib.Dec.{eqb}
+use lib.ListN.{length, getD, set, length-set}
+use lib.Seq.{getD-set-same, getD-set-other}
+use Rattle.words.specs.Choice.{pick}
+use Rattle.image.specs.Header.{count, slotAt}
+use Rattle.image.specs.Slot.{slotOf}
+use Rattle.frames.specs.declared.Reply.{Reply}
+use Rattle.checks.specs.Layout.{counterOf}
+use Rattle.checks.specs.Jobs.{commandOf}
+use Rattle.checks.specs.declared.Kind.{Kind}
+use Rattle.checks.specs.declared.Kind.the-variants.{RootKeyAndCounter, RootKey, CounterOnly, Nothing, SessionKey, Increment, Request}
+use Rattle.plan.specs.Stores.{stores}
+use Rattle.state.specs.declared.Key.{Key}
+use Rattle.state.specs.Parts.{noKey}
+use Rattle.steps.specs.Deciding.{keptAfter}
+use Rattle.arrival.specs.Arrival.{frameKept, statusOnArrival}
+use Rattle.device.specs.Work.{Device}
+use Rattle.rules.specs.Whole.{Outcome, kindIn, valueIn, newKey, allChecks, refusedWith, keysAfter, replyAfter, allStored, imageAfter, carriedOut, whole}
+use Rattle.promises.specs.Compared.{Counter, counterIn}
+use Rattle.promises.proofs.Slots.{SameHeader, same-header, Laid, same-laid}
+use Rattle.promises.proofs.Counters.{readCounter, counter-read}
+use Rattle.promises.proofs.Storing.{Stored, all-stored, inside-slot, counterAfter, after-stores}
+use Rattle.promises.proofs.Taken.{Facts, below-count, facts, or-zero, one-end}
+use Rattle.promises.proofs.Own.{SameTo, key-there-same, kind-same, new-key-same, value-same, checks-same}
+
+-- an accepted image, and four session keys of 32 bytes
+pub record Formed (image : List ℕ) (keys : List Key) : Type 0 where
+  pub laid : Laid image
+  pub four : length keys ≡ 4
+  pub long : (k : ℕ) → length (getD keys k noKey .bytes) ≡ 32
+
+-- the stores of a kind of job
+module _ (kind : Kind) (frame : List ℕ) (kept : ℕ) (image : List ℕ) (c : ℕ) (laid : Laid image) (below : c < count image) where
+  abbrev after : List ℕ
+  after = allStored (stores kind frame kept) image c
+
+  pub made : Stored (stores kind frame kept) image c
+  made = all-stored (stores kind frame kept) image c laid below (inside-slot kind frame kept)
+
+  still-laid : Laid after
+  still-laid = same-laid after image (made .header) laid
+
+  pub own-after : counterIn after c ≡ counterAfter kind frame kept (counterIn image c)
+  own-after =
+      counter-read after c still-laid (rw (made .header .counters) below) ∙ ap readCounter (made .own)
+      ∙ after-stores (λ i. getD image (slotAt image c + i) 0) frame kept kind
+      ∙ ap (counterAfter kind frame kept) (sym (counter-read image c laid below))
+
+  pub other-after : (k : ℕ) → k < count image → (k ≡ c → ⊥) → counterIn after k ≡ counterIn image k
+  other-after k inside apart =
+      counter-read after k still-laid (rw (made .header .counters) inside) ∙ ap readCounter (made .other k apart)
+      ∙ sym (counter-read image k laid inside)
+
+-- what a frame run whole leaves alone
+pub record Kept (d : Device) (frame : List ℕ) (o : Outcome) : Type 0 where
+  pub header : SameHeader (o .image) (d .image)
+  pub size : length (o .keys) ≡ length (d .state .keys)
+  pub counters : (k : ℕ) → k < count (d .image) → (k ≡ counterOf frame → ⊥) → counterIn (o .image) k ≡ counterIn (d .image) k
+  pub sessions : (k : ℕ) → (k ≡ counterOf frame → ⊥) → getD (o .keys) k noKey ≡ getD (d .state .keys) k noKey
+
+module _ (d : Device) (frame : List ℕ) (laid : Laid (d .image)) where
+  abbrev c : ℕ
+  c = counterOf frame
+
+  kept-keys :
+      (kind : Kind) →
+      (length (keysAfter (commandOf kind) d frame) ≡ length (d .state .keys))
+      × ((k : ℕ) → (k ≡ c → ⊥) → getD (keysAfter (commandOf kind) d frame) k noKey ≡ getD (d .state .keys) k noKey)
+  kept-keys RootKeyAndCounter = (refl, λ k apart. refl)
+  kept-keys RootKey = (refl, λ k apart. refl)
+  kept-keys CounterOnly = (refl, λ k apart. refl)
+  kept-keys Nothing = (refl, λ k apart. refl)
+  kept-keys SessionKey = (length-set (d .state .keys) c _, λ k apart. getD-set-other (d .state .keys) c k _ noKey apart)
+  kept-keys Increment = (refl, λ k apart. refl)
+  kept-keys Request = (refl, λ k apart. refl)
+
+  abbrev kept : ℕ
+  kept = keptAfter (commandOf (kindIn d frame)) 0 (valueIn d frame)
+
+  carried-kept : statusOnArrival (d .image) (d .state) frame ≡ 0 → Kept d frame (carriedOut (kindIn d frame) d frame)
+  unfolding carriedOut
+  carried-kept passed =
+      let below = below-count d frame passed in
+      record {
+        header = made (kindIn d frame) (frameKept frame) kept (d .image) c laid below .header;
+        size = kept-keys (kindIn d frame) .0;
+        counters = other-after (kindIn d frame) (frameKept frame) kept (d .image) c laid below;
+        sessions = kept-keys (kindIn d frame) .1;
+      }
+
+  pub whole-kept : Kept d frame (whole d frame)
+  unfolding refusedWith
+  whole-kept =
+      one-end (Kept d frame) d frame carried-kept
+      (λ status. record { header = same-header (d .image); size = refl; counters = λ k inside apart. refl; sessions = λ k apart. refl })
+
+-- two devices that are the same to a frame come to the same by it
+pub record SameBy (frame : List ℕ) (d e : Device) (o p : Outcome) : Type 0 where
+  pub status : o .status ≡ p .status
+  pub reply : o .reply ≡ p .reply
+  pub counter :
+      counterOf frame < count (d .image) → counterIn (o .image) (counterOf frame) ≡ counterIn (p .image) (counterOf frame)
+  pub session : getD (o .keys) (counterOf frame) noKey ≡ getD (p .keys) (counterOf frame) noKey
+
+module _
+    (frame : List ℕ) (d e : Device) (same : SameTo frame d e)
+    (formed-d : Formed (d .image) (d .state .keys)) (formed-e : Formed (e .image) (e .state .keys)) where
+  abbrev own : ℕ
+  own = counterOf frame
+
+  module _ (passed : statusOnArrival (d .image) (d .state) frame ≡ 0) where
+    below : own < count (d .image)
+    below = below-count d frame passed
+
+    below-e : own < count (e .image)
+    below-e = rw (← same .header .counters) below
+
+    abbrev keptBy : Device → Kind → ℕ
+    keptBy x kind = keptAfter (commandOf kind) 0 (valueIn x frame)
+
+    counter-same-after :
+        (kind : Kind) → Facts kind (slotOf (d .image) own) →
+        counterIn (imageAfter kind d frame) own ≡ counterIn (imageAfter kind e frame) own
+    counter-same-after kind known =
+        own-after kind (frameKept frame) (keptBy d kind) (d .image) own (formed-d .laid) below
+        ∙ ap (counterAfter kind (frameKept frame) (keptBy d kind)) (same .counter below) ∙ by-kept kind known
+        ∙ sym (own-after kind (frameKept frame) (keptBy e kind) (e .image) own (formed-e .laid) below-e)
+      where
+        by-kept :
+            (kind : Kind) → Facts kind (slotOf (d .image) own) →
+            counterAfter kind (frameKept frame) (keptBy d kind) (counterIn (e .image) own) ≡
+            counterAfter kind (frameKept frame) (keptBy e kind) (counterIn (e .image) own)
+        by-kept RootKeyAndCounter known = refl
+        by-kept RootKey known = refl
+        by-kept CounterOnly known = refl
+        by-kept Nothing known = refl
+        by-kept SessionKey known = refl
+        by-kept Increment known = rw (value-same frame d e same below known)
+        by-kept Request known = refl
+
+    key-kept : (keys : List Key) → length keys ≡ 4 → (key : Key) → getD (set keys own key) own noKey ≡ key
+    key-kept keys four key = getD-set-same keys own key noKey (omega (arith, four, below, formed-d .laid .few))
+
+    session-same-after :
+        (kind : Kind) →
+        getD (keysAfter (commandOf kind) d frame) own noKey ≡ getD (keysAfter (commandOf kind) e frame) own noKey
+    session-same-after RootKeyAndCounter = same .session
+    session-same-after RootKey = same .session
+    session-same-after CounterOnly = same .session
+    session-same-after Nothing = same .session
+    session-same-after SessionKey =
+        key-kept (d .state .keys) (formed-d .four) _
+        ∙ ap (λ (bytes : List ℕ). record { there = true; bytes = bytes }) (new-key-same frame d e same passed)
+        ∙ sym (key-kept (e .state .keys) (formed-e .four) _)
+    session-same-after Increment = same .session
+    session-same-after Request = same .session
+
+    reply-same-after :
+        (kind : Kind) → Facts kind (slotOf (d .image) own) → replyAfter (commandOf kind) d frame ≡ replyAfter (commandOf kind) e frame
+    reply-same-after RootKeyAndCounter known = refl
+    reply-same-after RootKey known = refl
+    reply-same-after CounterOnly known = refl
+    reply-same-after Nothing known = refl
+    reply-same-after SessionKey known = refl
+    reply-same-after Increment known = refl
+    reply-same-after Request known = rw (key-there-same frame d e same, value-same frame d e same below known)
+
+    carried-same : SameBy frame d e (carriedOut (kindIn d frame) d frame) (carriedOut (kindIn e frame) e frame)
+    unfolding carriedOut
+    carried-same =
+        rw (← kind-same frame d e same passed)
+        (record {
+          status = refl;
+          reply = reply-same-after (kindIn d frame) (facts d frame passed);
+          counter = λ _. counter-same-after (kindIn d frame) (facts d frame passed);
+          session = session-same-after (kindIn d frame);
+        })
+
+  whole-by : (b : Bool) → eqb (allChecks d frame) 0 ≡ b → SameBy frame d e (whole d frame) (whole e frame)
+  unfolding whole pick refusedWith allChecks
+  whole-by true p =
+      rw (← checks-same frame d e same, p) (carried-same (or-zero (statusOnArrival (d .image) (d .state) frame) _ (eqb-true (allChecks d frame) 0 p) .0))
+  whole-by false p =
+      rw (← checks-same frame d e same, p)
+      (record { status = refl; reply = refl; counter = same .counter; session = same .session })
+
+  pub whole-same : SameBy frame d e (whole d frame) (whole e frame)
+  whole-same = whole-by _ refl

@@ -1,0 +1,32 @@
+-- Document 01, "Steps": what demand 3 compares, and what it does not. Assumes nothing.
+use Prim.Native.Nat.{ℕ, _<_}
+use mathlib.Core.Path.{_≡_}
+use mathlib.Core.List.{List}
+use Rattle.words.specs.Choice.{pick}
+use Rattle.image.specs.Header.{count}
+use Rattle.image.specs.Slot.{slotOf, isSet, rootKey}
+use Rattle.rules.specs.Whole.{Outcome}
+
+-- per counter, the state words, the value while set and the key while root is set; not the key words under an unset root, nor a
+-- value word under an unset counter
+pub record Counter : Type 0 where
+  pub root : ℕ
+  pub counter : ℕ
+  pub value : ℕ
+  pub key : List ℕ
+
+unfoldable pub counterIn : List ℕ → ℕ → Counter
+counterIn image c =
+    record {
+      root = slotOf image c .root;
+      counter = slotOf image c .counter;
+      value = pick (isSet (slotOf image c .counter)) (slotOf image c .value) 0;
+      key = rootKey image c;
+    }
+
+-- demand 3 compares status, reply, session keys and, per counter, these
+pub record Alike (a b : Outcome) : Type 0 where
+  pub status : a .status ≡ b .status
+  pub reply : a .reply ≡ b .reply
+  pub keys : a .keys ≡ b .keys
+  pub counters : (c : ℕ) → c < count (a .image) → counterIn (a .image) c ≡ counterIn (b .image) c

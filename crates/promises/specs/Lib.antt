@@ -1,0 +1,4 @@
+-- What is promised: what is compared, an order of calls, and what it comes to as if frames had run whole.
+pub mod Compared
+pub mod Orders
+pub mod Account
