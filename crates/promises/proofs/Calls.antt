@@ -55,7 +55,7 @@ formed-on image accepted =
     record { laid = accepted-laid image accepted; four = refl; long = λ k. ap (λ (key : Key). length (key .bytes)) (no-key 4 k) }
 
 -- what is as if, as a device
-formed-as-if : (d : Device) (o : Outcome) → Formed (d .image) (d .state .keys) → SameHeader (d .image) (o .image) → Alike (outcome d) o → Formed (o .image) (o .keys)
+pub formed-as-if : (d : Device) (o : Outcome) → Formed (d .image) (d .state .keys) → SameHeader (d .image) (o .image) → Alike (outcome d) o → Formed (o .image) (o .keys)
 formed-as-if d o formed header alike =
     record {
       laid = same-laid (o .image) (d .image) (back-header (d .image) (o .image) header) (formed .laid);

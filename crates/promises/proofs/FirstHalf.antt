@@ -134,13 +134,17 @@ start-sound image accepted =
           });
     }
 
+-- a device that is idle rests
+pub at-rest : (a : Account) → Sound a → isBusy (a .device) ≡ false → Resting a
+at-rest a sound none = ⊎-elim (λ r. r) (λ w. absurd (never (sym none ∙ w .at .there))) (sound .state)
+
 -- Power up on an accepted image. After any order of calls, once idle, the device shows what it would show if the command frames
 -- that found it idle had run whole, in order, with resets and cuts where they fell.
 pub first-half :
     (image : List ℕ) → refusal image ≡ 0 → (calls : List Call) → isBusy (account calls (begun image) .device) ≡ false →
     Alike (outcome (account calls (begun image) .device)) (account calls (begun image) .asIf)
 first-half image accepted calls none =
-    ⊎-elim (λ r. r .alike) (λ w. absurd (never (sym none ∙ w .at .there))) (all-sound calls (begun image) (start-sound image accepted) .state)
+    at-rest (account calls (begun image)) (all-sound calls (begun image) (start-sound image accepted)) none .alike
 
 done : (call : Call) (a : Account) → Sound a → numberOf call (a .device) ≡ 0
 unfolding poweredUp afterFrame afterWork afterSteps pick

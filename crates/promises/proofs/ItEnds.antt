@@ -25,6 +25,20 @@ busy-runs a sound busy =
     ⊎-elim (λ r. absurd (never (sym (r .none) ∙ busy))) (λ w. runs _ _ _ _ _ (a .device .image) (a .device .state) (w .at) (w .left))
     (sound .state)
 
+-- a work call with a quota of 15 or more leaves the device idle
+module _ (a : Account) (sound : Sound a) (quota : ℕ) (enough : 15 ≤ quota) where
+  idle-by : (b : Bool) → isBusy (called (Work quota) (a .device)) ≡ b → isBusy (called (Work quota) (a .device)) ≡ false
+  idle-by true e =
+      let same = same-device (Work quota) a in
+      let running = busy-runs (accounted (Work quota) a) (next (Work quota) a sound) (ap isBusy same ∙ e) in
+      absurd
+      (never
+      (sym (work-ends quota (a .device) enough) ∙ sym (ap (λ (d : Device). isRunning (d .state)) (same ∙ work-done a sound quota)) ∙ running))
+  idle-by false e = e
+
+  pub idle-after-work : isBusy (called (Work quota) (a .device)) ≡ false
+  idle-after-work = idle-by _ refl
+
 -- After any order of calls, a work call with a quota of 15 or more leaves the device idle.
 module _ (image : List ℕ) (accepted : refusal image ≡ 0) (calls : List Call) where
   abbrev a : Account
@@ -33,20 +47,8 @@ module _ (image : List ℕ) (accepted : refusal image ≡ 0) (calls : List Call)
   sound : Sound a
   sound = all-sound calls (begun image) (start-sound image accepted)
 
-  after-by :
-      (quota : ℕ) → 15 ≤ quota → (b : Bool) → isBusy (called (Work quota) (a .device)) ≡ b → isBusy (called (Work quota) (a .device)) ≡ false
-  after-by quota h true e =
-      let after = next (Work quota) a sound in
-      let same = same-device (Work quota) a in
-      let running = busy-runs (accounted (Work quota) a) after (ap isBusy same ∙ e) in
-      let stopped = work-ends quota (a .device) h in
-      absurd
-      (never
-      (sym stopped ∙ sym (ap (λ (d : Device). isRunning (d .state)) (same ∙ work-done a sound quota)) ∙ running))
-  after-by quota h false e = e
-
   pub idle-after-15 : (quota : ℕ) → 15 ≤ quota → isBusy (called (Work quota) (a .device)) ≡ false
-  idle-after-15 quota h = after-by quota h _ refl
+  idle-after-15 quota enough = idle-after-work a sound quota enough
 
   -- A job that is there has done fewer than 15 steps since its frame found the device idle.
   pub fewer-than-15 : isBusy (a .device) ≡ true → a .device .state .job .step < 15

@@ -16,3 +16,6 @@ pub mod Calls
 pub mod FirstHalf
 pub mod Refused
 pub mod ItEnds
+pub mod SecondHalf
+pub mod Reordered
+pub mod Functions

@@ -2,3 +2,4 @@
 pub mod Compared
 pub mod Orders
 pub mod Account
+pub mod Reordering

@@ -1,0 +1,127 @@
+-- Demand 3, second half, of the device: frames that ran whole, in two orders that keep a counter's own. Assumes nothing.
+use Prim.Native.Nat.{ℕ, _<_}
+use mathlib.Core.Path.{_≡_, refl, ap, sym, subst, _∙_}
+use mathlib.Core.Logic.{⊎-elim}
+use mathlib.Core.Bool.{Bool, true, false}
+use mathlib.Core.List.{List, [], _∷_}
+use native.Mathlib.Omega.{arith}
+use lib.ListN.{getD}
+use Rattle.words.specs.Choice.{pick}
+use Rattle.words.proofs.Choice.{never}
+use Rattle.image.specs.Header.{count}
+use Rattle.frames.specs.declared.Class.{Class}
+use Rattle.frames.specs.declared.Class.the-variants.{Command}
+use Rattle.frames.specs.Classes.{classOf}
+use Rattle.state.specs.declared.Key.{Key}
+use Rattle.state.specs.Parts.{noKey}
+use Rattle.device.specs.Work.{Device}
+use Rattle.rules.specs.Whole.{Outcome, outcome, whole}
+use Rattle.promises.specs.Compared.{counterIn, Alike}
+use Rattle.promises.specs.Orders.{Call, Frame, Work, called}
+use Rattle.promises.specs.Account.{Account, isBusy, idle, goneBy, worked, framed, accounted, account}
+use Rattle.promises.specs.Reordering.{ownFrames, allWhole, eachRun, Commands}
+use Rattle.promises.proofs.Sound.{Resting, Sound}
+use Rattle.promises.proofs.WholeOwn.{Formed}
+use Rattle.promises.proofs.Calls.{formed-as-if}
+use Rattle.promises.proofs.FirstHalf.{next, all-sound, at-rest, same-device}
+use Rattle.promises.proofs.ItEnds.{idle-after-work}
+use Rattle.promises.proofs.SecondHalf.{header-all, same-counter, same-session}
+
+otherwise : {A : Type 0} (t : Bool) (x y : A) → t ≡ false → pick t x y ≡ y
+unfolding pick
+otherwise true x y e = absurd (never (sym e))
+otherwise false x y e = refl
+
+-- an idle account after a frame and the steps of its job: the frame has run whole
+module _ (a : Account) (sound : Sound a) (quiet : isBusy (a .device) ≡ false) (frame : List ℕ) (command : classOf frame ≡ Command) where
+  abbrev after : Device
+  after = called (Frame frame) (a .device)
+
+  abbrev taken : Account
+  taken = worked after frame a
+
+  is-taken : accounted (Frame frame) a ≡ taken
+  is-taken =
+      ap (λ (class : Class). framed class frame after a) command ∙ otherwise (isBusy (a .device)) (goneBy after a) taken quiet
+
+  taken-sound : Sound taken
+  taken-sound = subst Sound is-taken (next (Frame frame) a sound)
+
+  abbrev ended : Device
+  ended = called (Work 15) after
+
+  ended-idle : isBusy ended ≡ false
+  ended-idle = idle-after-work taken taken-sound 15 (omega arith)
+
+  -- whether the job ran or the frame failed on arrival
+  abbrev takenAs : Bool → Account
+  takenAs busy = record { device = after; asIf = pick busy (a .asIf) (whole (idle (a .asIf)) frame); frame = frame }
+
+  as-whole : (busy : Bool) → pick busy (worked ended frame (takenAs busy)) (goneBy ended (takenAs busy)) .asIf ≡ whole (idle (a .asIf)) frame
+  unfolding pick
+  as-whole true = otherwise (isBusy ended) (a .asIf) (whole (idle (a .asIf)) frame) ended-idle
+  as-whole false = refl
+
+  one-whole :
+      (accounted (Work 15) (accounted (Frame frame) a) .asIf ≡ whole (idle (a .asIf)) frame)
+      × (isBusy (accounted (Work 15) (accounted (Frame frame) a) .device) ≡ false)
+  one-whole = (
+    ap (λ (b : Account). accounted (Work 15) b .asIf) is-taken ∙ as-whole (isBusy after),
+    ap (λ (b : Account). isBusy (accounted (Work 15) b .device)) is-taken ∙ ap isBusy (same-device (Work 15) taken) ∙ ended-idle,
+  )
+
+-- frames, each with the steps of its job, run whole
+pub each-whole :
+    (fs : List (List ℕ)) (a : Account) → Sound a → isBusy (a .device) ≡ false → Commands fs →
+    (account (eachRun fs) a .asIf ≡ allWhole fs (a .asIf)) × (isBusy (account (eachRun fs) a .device) ≡ false)
+unfolding account eachRun allWhole Commands
+each-whole [] a sound quiet commands = (refl, quiet)
+each-whole (frame ∷ fs) a sound quiet commands =
+    let one = one-whole a sound quiet frame (commands .0) in
+    let b = accounted (Work 15) (accounted (Frame frame) a) in
+    let more = each-whole fs b (next (Work 15) _ (next (Frame frame) a sound)) (one .1) (commands .1) in
+    (more .0 ∙ ap (allWhole fs) (one .0), more .1)
+
+-- Run command frames whole, in two orders in which a counter has the same frames in the same order. The device comes to the same
+-- counter and the same session key.
+module _
+    (a : Account) (sound : Sound a) (quiet : isBusy (a .device) ≡ false) (fs gs : List (List ℕ)) (commands-f : Commands fs)
+    (commands-g : Commands gs) (c : ℕ) (order : ownFrames c fs ≡ ownFrames c gs) where
+  formed : Formed (a .asIf .image) (a .asIf .keys)
+  formed =
+      let r = at-rest a sound quiet in
+      formed-as-if (a .device) (a .asIf) (r .formed) (r .header) (r .alike)
+
+  -- after one of the orders, the device rests on what its frames come to
+  rests :
+      (hs : List (List ℕ)) → Commands hs →
+      Resting (account (eachRun hs) a) × (account (eachRun hs) a .asIf ≡ allWhole hs (a .asIf))
+  rests hs commands =
+      let whole = each-whole hs a sound quiet commands in
+      (at-rest (account (eachRun hs) a) (all-sound (eachRun hs) a sound) (whole .1), whole .0)
+
+  session-as :
+      (hs : List (List ℕ)) → Commands hs →
+      getD (account (eachRun hs) a .device .state .keys) c noKey ≡ getD (allWhole hs (a .asIf) .keys) c noKey
+  session-as hs commands =
+      let r = rests hs commands in
+      ap (λ (keys : List Key). getD keys c noKey) (r .0 .alike .keys ∙ ap (λ (o : Outcome). o .keys) (r .1))
+
+  pub reordered-session :
+      getD (account (eachRun fs) a .device .state .keys) c noKey ≡ getD (account (eachRun gs) a .device .state .keys) c noKey
+  reordered-session =
+      session-as fs commands-f ∙ same-session c fs gs (a .asIf) formed order ∙ sym (session-as gs commands-g)
+
+  module _ (below : c < count (a .asIf .image)) where
+    counter-as :
+        (hs : List (List ℕ)) → Commands hs →
+        counterIn (account (eachRun hs) a .device .image) c ≡ counterIn (allWhole hs (a .asIf) .image) c
+    counter-as hs commands =
+        let r = rests hs commands in
+        let same = ap (λ (o : Outcome). count (o .image)) (r .1) ∙ header-all hs (a .asIf) formed .counters in
+        r .0 .alike .counters c (rw (r .0 .header .counters, same) below) ∙ ap (λ (o : Outcome). counterIn (o .image) c) (r .1)
+
+    pub reordered-counter :
+        counterIn (account (eachRun fs) a .device .image) c ≡ counterIn (account (eachRun gs) a .device .image) c
+    reordered-counter =
+        counter-as fs commands-f ∙ same-counter c fs gs (a .asIf) formed order below ∙ sym (counter-as gs commands-g)
