@@ -1,31 +1,11 @@
 /* A plugin of qemu-user that counts the instructions a program executes, and prints the total on
-   standard error when it ends. Debian ships no header for plugins: what is used of version 1 of
-   the interface is declared here. */
+   standard error when it ends. */
+#include "../tests/trace/plugin.h"
+
 #include <inttypes.h>
-#include <stddef.h>
-#include <stdint.h>
 #include <stdio.h>
 #include <stdlib.h>
 
-typedef uint64_t plugin_id;
-struct qemu_plugin_tb;
-struct qemu_plugin_insn;
-
-/* The flag that says that a callback reads and writes no registers. */
-enum { QEMU_PLUGIN_CB_NO_REGS = 0 };
-
-void qemu_plugin_register_vcpu_tb_trans_cb(plugin_id id,
-                                           void (*translated)(plugin_id, struct qemu_plugin_tb *));
-void qemu_plugin_register_vcpu_tb_exec_cb(struct qemu_plugin_tb *tb,
-                                          void (*executed)(unsigned int, void *), int flags,
-                                          void *given);
-void qemu_plugin_register_atexit_cb(plugin_id id, void (*ended)(plugin_id, void *), void *given);
-size_t qemu_plugin_tb_n_insns(const struct qemu_plugin_tb *tb);
-struct qemu_plugin_insn *qemu_plugin_tb_get_insn(const struct qemu_plugin_tb *tb, size_t index);
-uint64_t qemu_plugin_insn_vaddr(const struct qemu_plugin_insn *instruction);
-int qemu_plugin_install(plugin_id id, const void *info, int argc, char **argv);
-
-extern int qemu_plugin_version;
 int qemu_plugin_version = 1;
 
 /* A translated block: how many instructions, and where the first and the last one stand. */

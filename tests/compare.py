@@ -7,16 +7,14 @@ on both sides of each refusal, single blocks, and chains of blocks. Last, covera
 length, key length or refusal was not reached. A run is fixed by its seed, which is printed.
 """
 
-import argparse
 import hashlib
 import math
 import pathlib
 import random
-import shlex
 import sys
 
 sys.dont_write_bytecode = True  # nothing is written beside the sources
-from programs import LONGEST_MESSAGE, Platform, Program, expect, line_of  # noqa: E402
+from programs import LONGEST_MESSAGE, Comparison, Platform, expect, line_of  # noqa: E402
 from tally import Failed, Tally  # noqa: E402
 
 VECTORS = pathlib.Path(__file__).resolve().parent / "vectors"
@@ -214,17 +212,9 @@ def test_coverage(tally, reached):
 
 
 def main():
-    parser = argparse.ArgumentParser(description=__doc__, formatter_class=argparse.RawDescriptionHelpFormatter)
-    parser.add_argument("--shim", required=True, metavar="CMD", help="the command that runs the shim")
-    parser.add_argument("--second", required=True, metavar="CMD", help="the command that runs the second program")
-    parser.add_argument("--seed", type=int, default=1)
-    parser.add_argument("--count", type=int, default=100_000, help="random calls; a tenth as many blocks are added")
-    given = parser.parse_args()
-    print(f"seed {given.seed}, count {given.count}", flush=True)
+    given = Comparison(__doc__, "hash", 100_000, "random calls; a tenth as many blocks are added")
+    library, second, digests = given.library, given.second, given.second_in("digest")
     rng = random.Random(given.seed)
-    library = Program("the library", shlex.split(given.shim))
-    second = Program("the second program", shlex.split(given.second) + ["hash"])
-    digests = Program("the second program", shlex.split(given.second) + ["digest"])
     tally = Tally()
     test_vectors(tally, (library, second, Platform()))
     reached = test_random(tally, library, second, rng, given.count)

@@ -9,10 +9,8 @@ requests; last, coverage: it fails if some refusal, status or kind of job was no
 fixed by its seed, which is printed.
 """
 
-import argparse
 import hashlib
 import random
-import shlex
 import sys
 
 sys.dont_write_bytecode = True  # nothing is written beside the sources
@@ -25,7 +23,7 @@ from device_bytes import POWER_ON, digits, image_of, put, slot  # noqa: E402
 from device_random import Walk  # noqa: E402
 from device_reached import WANTED, Reached  # noqa: E402
 from device_talk import expect_same, try_cases, try_histories  # noqa: E402
-from programs import Program  # noqa: E402
+from programs import Comparison  # noqa: E402
 from tally import Failed, Tally  # noqa: E402
 
 WALKS = 5000
@@ -82,16 +80,8 @@ def compare_random(programs, rng, count, reached):
 
 
 def main():
-    parser = argparse.ArgumentParser(description=__doc__, formatter_class=argparse.RawDescriptionHelpFormatter)
-    parser.add_argument("--shim", required=True, metavar="CMD", help="the command that runs the device's shim")
-    parser.add_argument("--second", required=True, metavar="CMD", help="the command that runs the second program")
-    parser.add_argument("--seed", type=int, default=1)
-    parser.add_argument("--count", type=int, default=120_000, help="random requests")
-    given = parser.parse_args()
-    print(f"seed {given.seed}, count {given.count}", flush=True)
-    library = Program("the library", shlex.split(given.shim))
-    second = Program("the second program", shlex.split(given.second) + ["device"])
-    programs, tally, reached = (library, second), Tally(), Reached()
+    given = Comparison(__doc__, "device", 120_000, "random requests")
+    programs, tally, reached = (given.library, given.second), Tally(), Reached()
     rng = random.Random(given.seed)
     tally.test("the tests' own block of SHA-256", lambda: compare_blocks(rng))
     for name, cases in (device_bad.GROUPS | device_frames.GROUPS).items():

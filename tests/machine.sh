@@ -4,7 +4,8 @@
 #   need COMMAND PACKAGE    a command (or, with a slash, a file) that must be there
 #   need_rattle             rt must be there
 #   need_x86_cc             what compiles and runs a C program over a static library of the project
-#   x86_cc                  array: that C compiler; the library's code is for x86-64
+#   need_tests              all that the tests need, asked for before the first of them
+#   x86_cc, x86_cxx         arrays: that C compiler, and its C++ compiler; the library's code is for x86-64
 #   x86_run                 array: what stands before an x86-64 program to run it, nothing on x86-64
 #   rattle_program NAME ..  runs target/bin/NAME with these arguments
 #
@@ -22,9 +23,11 @@ rattle_tools=$rattle_home/on/$machine/toolchain
 
 # An Arm machine runs x86-64 programs under an emulator: the kit's own, or else Debian's.
 x86_cc=(gcc)
+x86_cxx=(g++)
 x86_run=()
 if [ "$machine" = aarch64 ]; then
     x86_cc=(x86_64-linux-gnu-gcc -static)
+    x86_cxx=(x86_64-linux-gnu-g++ -static)
     x86_run=("$rattle_tools/bin/qemu-x86_64")
     [ -x "${x86_run[0]}" ] || x86_run=(qemu-x86_64)
 fi
@@ -71,6 +74,15 @@ need_x86_cc() {
         return 1
         ;;
     esac
+}
+
+# The tests' plugin is compiled for this machine, whichever it is; under Debian's qemu it follows x86-64 programs.
+need_tests() {
+    local cxx_package=g++
+    [ "$machine" = x86_64 ] || cxx_package=g++-x86-64-linux-gnu
+    need_rattle && need_x86_cc && need "${x86_cxx[0]}" "$cxx_package" && need gcc gcc &&
+        need /usr/include/stdio.h libc6-dev && need qemu-x86_64 qemu-user && need make make &&
+        need x86_64-linux-gnu-objdump binutils-x86-64-linux-gnu && need pkg-config pkg-config && need rustc rustc && need python3 python3
 }
 
 rattle_program() { # NAME ARGS..

@@ -4,8 +4,10 @@ A hash request is a letter and its fields as bytes: H message, M key message, B 
 and its answer have the form that tests/shim/shim.c describes; other lines go through `ask_lines`.
 """
 
+import argparse
 import hashlib
 import hmac
+import shlex
 import subprocess
 
 from tally import Failed
@@ -40,6 +42,30 @@ class Program:
 
     def ask(self, requests):
         return self.ask_lines([line_of(request) for request in requests])
+
+
+class Comparison:
+    """What the command line of a comparison gives: the two programs, the seed, and how many random
+    calls. Seed and count are printed."""
+
+    def __init__(self, description, mode, count, counted):
+        parser = argparse.ArgumentParser(
+            description=description, formatter_class=argparse.RawDescriptionHelpFormatter
+        )
+        parser.add_argument("--shim", required=True, metavar="CMD", help="the command that runs the shim")
+        parser.add_argument("--second", required=True, metavar="CMD", help="the command that runs the second program")
+        parser.add_argument("--seed", type=int, default=1)
+        parser.add_argument("--count", type=int, default=count, help=counted)
+        given = parser.parse_args()
+        print(f"seed {given.seed}, count {given.count}", flush=True)
+        self.seed = given.seed
+        self.count = given.count
+        self.second_command = shlex.split(given.second)
+        self.library = Program("the library", shlex.split(given.shim))
+        self.second = self.second_in(mode)
+
+    def second_in(self, mode):
+        return Program("the second program", self.second_command + [mode])
 
 
 class Platform:

@@ -103,21 +103,6 @@ static int is_state(struct field field)
     return 1;
 }
 
-/* Decimal digits, no sign, no leading zero, below 2^32. */
-static int is_quota(struct field field, uint32_t *quota)
-{
-    uint64_t number = 0;
-    if (field.length == 0 || field.length > 10 || (field.length > 1 && field.digits[0] == '0'))
-        return 0;
-    for (size_t i = 0; i < field.length; i++) {
-        if (field.digits[i] < '0' || field.digits[i] > '9')
-            return 0;
-        number = 10 * number + (uint64_t)(field.digits[i] - '0');
-    }
-    *quota = (uint32_t)number;
-    return number <= UINT32_MAX;
-}
-
 static struct lent field_bytes(struct field field)
 {
     return read_field(field, letter_a);
@@ -133,7 +118,7 @@ static void answer_line(const char *line, size_t length)
         answer_power_up(field_bytes(f[0]));
     else if (letter == 'F' && count == 4 && is_bytes(f[0]) && is_state(f[1]) && is_bytes(f[2]) && is_bytes(f[3]))
         answer_frame(field_bytes(f[0]), field_bytes(f[1]), field_bytes(f[2]), field_bytes(f[3]));
-    else if (letter == 'W' && count == 3 && is_bytes(f[0]) && is_state(f[1]) && is_quota(f[2], &quota))
+    else if (letter == 'W' && count == 3 && is_bytes(f[0]) && is_state(f[1]) && field_number(f[2], &quota))
         answer_work(field_bytes(f[0]), field_bytes(f[1]), quota);
     else
         printf("?\n");

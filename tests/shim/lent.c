@@ -6,6 +6,14 @@
 #include <stdlib.h>
 #include <string.h>
 
+/* Under AddressSanitizer a guard is out of bounds while the library has the buffer, to read it too. */
+#ifdef __SANITIZE_ADDRESS__
+#include <sanitizer/asan_interface.h>
+#else
+#define ASAN_POISON_MEMORY_REGION(from, size) ((void)(from), (void)(size))
+#define ASAN_UNPOISON_MEMORY_REGION(from, size) ((void)(from), (void)(size))
+#endif
+
 enum { GUARD = 64, GUARD_BYTE = 0xa5, UNWRITTEN = 0x5a };
 
 static void *allocate(size_t size)
@@ -42,6 +50,8 @@ uint32_t *words(struct lent lent)
 void lend(struct lent lent)
 {
     memcpy(lent.before, lent.all, lent.length + 2 * GUARD);
+    ASAN_POISON_MEMORY_REGION(lent.all, GUARD);
+    ASAN_POISON_MEMORY_REGION(lent.all + GUARD + lent.length, GUARD);
 }
 
 static void damaged(const char *name, const char *what)
@@ -53,6 +63,7 @@ static void damaged(const char *name, const char *what)
 void take_back(struct lent lent, const char *name, int may_write)
 {
     size_t end = GUARD + lent.length;
+    ASAN_UNPOISON_MEMORY_REGION(lent.all, end + GUARD);
     if (memcmp(lent.all, lent.before, GUARD) != 0)
         damaged(name, "a byte before");
     if (memcmp(lent.all + end, lent.before + end, GUARD) != 0)
@@ -110,6 +121,20 @@ long field_length(struct field field, char letter_a)
 uint8_t field_byte(struct field field, size_t i, char letter_a)
 {
     return (uint8_t)(16 * digit(field.digits[2 * i], letter_a) + digit(field.digits[2 * i + 1], letter_a));
+}
+
+int field_number(struct field field, uint32_t *number)
+{
+    uint64_t read = 0;
+    if (field.length == 0 || field.length > 10 || (field.length > 1 && field.digits[0] == '0'))
+        return 0;
+    for (size_t i = 0; i < field.length; i++) {
+        if (field.digits[i] < '0' || field.digits[i] > '9')
+            return 0;
+        read = 10 * read + (uint64_t)(field.digits[i] - '0');
+    }
+    *number = (uint32_t)read;
+    return read <= UINT32_MAX;
 }
 
 struct lent read_field(struct field field, char letter_a)

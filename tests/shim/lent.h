@@ -46,6 +46,9 @@ long field_length(struct field field, char letter_a);
 /* Byte i of a field that is of this form. */
 uint8_t field_byte(struct field field, size_t i, char letter_a);
 
+/* Whether a field is a number below 2^32: decimal digits, no sign, no leading zero. */
+int field_number(struct field field, uint32_t *number);
+
 /* The bytes of a field that is of this form. */
 struct lent read_field(struct field field, char letter_a);
 
