@@ -6,18 +6,25 @@ use mathlib.Core.Logic.{⊎-elim}
 use mathlib.Core.Bool.{Bool, true, false}
 use mathlib.Core.List.{List}
 use native.Mathlib.Omega.{arith}
-use Rattle.words.proofs.Choice.{never}
+use Rattle.words.specs.Choice.{pick}
+use Rattle.words.proofs.Choice.{never, either}
 use Rattle.image.specs.Refusal.{refusal}
+use Rattle.frames.specs.declared.Class.{Class}
+use Rattle.frames.specs.declared.Class.the-variants.{Empty, EnableReset, Reset, Read, Command, Unnamed}
+use Rattle.frames.specs.Classes.{classOf}
+use Rattle.state.specs.declared.State.{State}
 use Rattle.state.specs.Refusal.{isRunning}
 use Rattle.state.proofs.Running.{at-most-15}
+use Rattle.device.specs.Frame.{withEnabled, stateAfter}
 use Rattle.device.specs.Work.{Device, run, stepsDone}
+use Rattle.device.specs.Calls.{device, poweredUp, afterFrame, afterSteps, afterWork}
 use Rattle.rules.specs.Whole.{kindIn}
-use Rattle.promises.specs.Orders.{Call, Work, called}
+use Rattle.promises.specs.Orders.{Call, PowerUp, Frame, Work, called, stepsOf}
 use Rattle.promises.specs.Account.{Account, isBusy, accounted, account, begun}
-use Rattle.promises.proofs.Progress.{runs}
+use Rattle.promises.proofs.Progress.{runs, progress}
 use Rattle.promises.proofs.Ends.{work-ends}
 use Rattle.promises.proofs.Sound.{Resting, Working, Sound}
-use Rattle.promises.proofs.FirstHalf.{work-done, next, all-sound, start-sound, same-device}
+use Rattle.promises.proofs.FirstHalf.{not-refused, frame-done, work-done, next, all-sound, start-sound, same-device}
 
 -- a job that is there runs
 busy-runs : (a : Account) → Sound a → isBusy (a .device) ≡ true → isRunning (a .device .state) ≡ true
@@ -39,6 +46,55 @@ module _ (a : Account) (sound : Sound a) (quota : ℕ) (enough : 15 ≤ quota) w
   pub idle-after-work : isBusy (called (Work quota) (a .device)) ≡ false
   idle-after-work = idle-by _ refl
 
+-- a call that finds a job and leaves one: the job is older by the steps that the call reports
+module _ (a : Account) (sound : Sound a) (busy : isBusy (a .device) ≡ true) where
+  abbrev d : Device
+  d = a .device
+
+  abbrev Older : ℕ → State → Type 0
+  Older steps t = t .job .there ≡ true → t .job .step ≡ steps + d .state .job .step
+
+  same-age : (s : State) → s .job .step ≡ d .state .job .step → Older 0 s
+  same-age s e there = e ∙ omega arith
+
+  frame-age : (bytes : List ℕ) (class : Class) → Older 0 (stateAfter class (d .image) (d .state) bytes)
+  unfolding withEnabled pick
+  frame-age bytes Empty = same-age (d .state) refl
+  frame-age bytes EnableReset = same-age (withEnabled (d .state) true) refl
+  frame-age bytes Reset = either (Older 0) (d .state .enabled) _ _ (λ _ gone. absurd (never gone)) (λ _. same-age (withEnabled (d .state) false) refl)
+  frame-age bytes Read = same-age (withEnabled (d .state) false) refl
+  frame-age bytes Command =
+      either (Older 0) (d .state .job .there) _ _ (λ _. same-age (withEnabled (d .state) false) refl) (λ none. absurd (never (sym none ∙ busy)))
+  frame-age bytes Unnamed = same-age (withEnabled (d .state) false) refl
+
+  work-age : (m : ℕ) → Older m (run m d .state)
+  work-age m there =
+      ⊎-elim (λ r. absurd (never (sym (r .none) ∙ busy)))
+      (λ w. progress _ _ _ _ (w .steps) d (w .at) (w .left) m there .0 .step ∙ ap (λ (n : ℕ). m + n) (sym (w .at .step))) (sound .state)
+
+  frame-steps : (bytes : List ℕ) → afterFrame (d .image) (d .state) bytes .steps ≡ 0
+  unfolding afterFrame pick
+  frame-steps bytes = rw (not-refused a sound)
+
+  work-steps : (quota : ℕ) → afterWork d quota .steps ≡ stepsDone quota d
+  unfolding afterWork afterSteps pick
+  work-steps quota = rw (not-refused a sound)
+
+  -- what is left is as old as a call says
+  as-old : (steps reported : ℕ) (e after : Device) → e ≡ after → reported ≡ steps → Older steps (after .state) → Older reported (e .state)
+  as-old steps reported e after same number old there =
+      ap (λ (x : Device). x .state .job .step) same ∙ old (sym (ap isBusy same) ∙ there) ∙ ap (λ (n : ℕ). n + d .state .job .step) (sym number)
+
+  pub older : (call : Call) → Older (stepsOf call d) (called call d .state)
+  unfolding poweredUp
+  older PowerUp = λ gone. absurd (never gone)
+  older (Frame bytes) =
+      as-old 0 (stepsOf (Frame bytes) d) (called (Frame bytes) d) _ (frame-done a sound bytes) (frame-steps bytes)
+      (frame-age bytes (classOf bytes))
+  older (Work quota) =
+      as-old (stepsDone quota d) (stepsOf (Work quota) d) (called (Work quota) d) _ (work-done a sound quota) (work-steps quota)
+      (work-age (stepsDone quota d))
+
 -- After any order of calls, a work call with a quota of 15 or more leaves the device idle.
 module _ (image : List ℕ) (accepted : refusal image ≡ 0) (calls : List Call) where
   abbrev a : Account
@@ -50,7 +106,12 @@ module _ (image : List ℕ) (accepted : refusal image ≡ 0) (calls : List Call)
   pub idle-after-15 : (quota : ℕ) → 15 ≤ quota → isBusy (called (Work quota) (a .device)) ≡ false
   idle-after-15 quota enough = idle-after-work a sound quota enough
 
-  -- A job that is there has done fewer than 15 steps since its frame found the device idle.
+  -- A job that is there grows older by the steps that each call reports, and has done fewer than 15.
+  pub steps-counted :
+      (call : Call) → isBusy (a .device) ≡ true → isBusy (called call (a .device)) ≡ true →
+      called call (a .device) .state .job .step ≡ stepsOf call (a .device) + a .device .state .job .step
+  steps-counted call busy still = older a sound busy call still
+
   pub fewer-than-15 : isBusy (a .device) ≡ true → a .device .state .job .step < 15
   fewer-than-15 busy =
       ⊎-elim (λ r. absurd (never (sym (r .none) ∙ busy)))

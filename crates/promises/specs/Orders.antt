@@ -22,6 +22,12 @@ numberOf PowerUp d = poweredUp (d .image) .number
 numberOf (Frame bytes) d = afterFrame (d .image) (d .state) bytes .number
 numberOf (Work quota) d = afterWork d quota .number
 
+-- the steps that a call reports
+abbrev pub stepsOf : Call → Device → ℕ
+stepsOf PowerUp d = poweredUp (d .image) .steps
+stepsOf (Frame bytes) d = afterFrame (d .image) (d .state) bytes .steps
+stepsOf (Work quota) d = afterWork d quota .steps
+
 -- the device after an order of calls
 unfoldable pub allCalled : List Call → Device → Device
 allCalled [] d = d
