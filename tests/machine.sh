@@ -7,7 +7,7 @@
 #   need_tests              all that the tests need, asked for before the first of them
 #   x86_cc, x86_cxx         arrays: that C compiler, and its C++ compiler; the library's code is for x86-64
 #   x86_run                 array: what stands before an x86-64 program to run it, nothing on x86-64
-#   rattle_program NAME ..  runs target/bin/NAME with these arguments
+#   rattle_command NAME     sets the array `program` to the command that runs target/bin/NAME
 #
 # A need that is not met prints one line that names what is missing, and fails.
 
@@ -85,12 +85,10 @@ need_tests() {
         need x86_64-linux-gnu-objdump binutils-x86-64-linux-gnu && need pkg-config pkg-config && need rustc rustc && need python3 python3
 }
 
-rattle_program() { # NAME ARGS..
-    local program=$project/target/bin/$1
-    shift
+# An Arm machine runs it by its x86-64 loader, with the kit's C library, under the emulator.
+rattle_command() { # NAME
+    program=("$project/target/bin/$1")
     if [ "$machine" = aarch64 ]; then
-        "${x86_run[@]}" "$rattle_tools/lib/ld-linux-x86-64.so.2" --library-path "$rattle_tools/lib" "$program" "$@"
-    else
-        "$program" "$@"
+        program=("${x86_run[@]}" "$rattle_tools/lib/ld-linux-x86-64.so.2" --library-path "$rattle_tools/lib" "${program[@]}")
     fi
 }

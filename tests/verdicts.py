@@ -26,7 +26,7 @@ UNFIT = (
 )
 
 # The contracts of C functions that a program's proof assumes.
-ASSUMED = {"digest": "axioms libc: libc::read, libc::write (2 of the 50 declared)"}
+ASSUMED = {"rpmcrun": "axioms libc: libc::read, libc::write (2 of the 50 declared)"}
 
 
 def edit(path):

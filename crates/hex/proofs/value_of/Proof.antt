@@ -1,0 +1,35 @@
+-- `value_of` meets its contract: the tests in the definition's order. Assumes nothing.
+use borrow.Author.Needs.{needs}
+use borrow.Author.Tests.{lt-ltb, le-ltb}
+use Rattle.words.specs.Choice.{pick}
+use Rattle.hex.specs.Hex.{valueOf}
+use Rattle.hex.proofs.value_of.Statement.{statement}
+use Rattle.hex.proofs.value_of.Tie as tie
+
+returns : tie.Need-returns
+unfolding valueOf pick
+returns c = simp (lt-ltb _ _ (c .if1 .taken))
+
+returns-2 : tie.Need-returns-2
+unfolding valueOf pick
+returns-2 c = simp (le-ltb _ _ (c .before .if1 .left), lt-ltb _ _ (c .if2 .taken))
+
+returns-3 : tie.Need-returns-3
+unfolding valueOf pick
+returns-3 c =
+    simp (le-ltb _ _ (c .before .before .if1 .left), le-ltb _ _ (c .before .if2 .left), lt-ltb _ _ (c .if3 .taken))
+
+returns-4 : tie.Need-returns-4
+unfolding valueOf pick
+returns-4 c =
+    let if1 = c .before .before .before .if1 in
+    simp (le-ltb _ _ (if1 .left), le-ltb _ _ (c .before .before .if2 .left), le-ltb _ _ (c .before .if3 .left), lt-ltb _ _ (c .if4 .taken))
+
+returns-5 : tie.Need-returns-5
+unfolding valueOf pick
+returns-5 c =
+    let if1 = c .before .before .before .if1 in
+    simp (le-ltb _ _ (if1 .left), le-ltb _ _ (c .before .before .if2 .left), le-ltb _ _ (c .before .if3 .left), le-ltb _ _ (c .if4 .left))
+
+pub value-of-spec : {M : Type 1} → statement M
+value-of-spec = tie.close (tie.spec returns returns-2 returns-3 (λ c. search needs) returns-4 returns-5)
