@@ -19,3 +19,8 @@ pub mod ItEnds
 pub mod SecondHalf
 pub mod Reordered
 pub mod Functions
+pub mod ExamplesCalls
+pub mod ExamplesArrival
+pub mod ExamplesJobs
+pub mod ExamplesCuts
+pub mod Examples

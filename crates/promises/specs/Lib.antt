@@ -3,3 +3,4 @@ pub mod Compared
 pub mod Orders
 pub mod Account
 pub mod Reordering
+pub mod Examples

@@ -1,0 +1,127 @@
+-- The examples that are decided on arrival: P1 to P8 and P13, and the frames of P14. Assumes nothing.
+use Prim.Native.Nat.{ℕ, _≤_, _<_}
+use mathlib.Core.Path.{_≡_, refl, ap, sym, subst, _∙_}
+use mathlib.Core.Bool.{Bool, true, false}
+use mathlib.Core.List.{List, [], _∷_}
+use native.Mathlib.Omega.{arith}
+use borrow.Author.Tests.{lt-ltb, le-ltb, eq-eqb}
+use lib.Dec.{eqb}
+use lib.ListN.{length, getD}
+use Rattle.words.specs.Choice.{pick}
+use Rattle.words.proofs.Choice.{either}
+use Rattle.image.specs.Slot.{isBad}
+use Rattle.frames.specs.Classes.{namedClass, classOf}
+use Rattle.checks.specs.Layout.{counterOf, frameLength}
+use Rattle.checks.specs.Checks.{shapeStatus, counterStatus, stateStatus, slotStatus, orElse, arrivalStatus}
+use Rattle.state.specs.Parts.{sessionKey}
+use Rattle.arrival.specs.Arrival.{statusOnArrival, taken}
+use Rattle.device.specs.Frame.{withEnabled}
+use Rattle.device.specs.Work.{Device}
+use Rattle.device.specs.Calls.{device}
+use Rattle.rules.proofs.RunsWhole.{arrived-fails}
+use Rattle.promises.specs.Orders.{Frame, called, allCalled}
+use Rattle.promises.specs.Examples.{P1, P2, P3, P4, P5, P6, P7, P8, P13, P14, Ready, slotFor, Shaped, InOrder, Ends, Seen}
+use Rattle.promises.proofs.Enabled.{enabledAs}
+use Rattle.promises.proofs.ExamplesCalls.{Holds, frame-called, ready-enabled, command-called}
+
+-- a frame with its length in order has two bytes or more
+pub shaped-long : (type : ℕ) (frame : List ℕ) → Shaped type frame → 1 < length frame
+unfolding frameLength
+shaped-long type frame shaped =
+    rw (shaped .sized)
+    (either (λ (n : ℕ). 1 < n) (eqb type 0) 64 _ (λ _. omega arith)
+    (λ _. either (λ (n : ℕ). 1 < n) (eqb type 3) 48 40 (λ _. omega arith) (λ _. omega arith)))
+
+module _ (d : Device) (ready : Ready d) (frame : List ℕ) where
+  abbrev c : ℕ
+  c = counterOf frame
+
+  abbrev hasKey : Bool
+  hasKey = sessionKey (d .state) c .there
+
+  -- checks 1 to 3 do not fail
+  past-shape :
+      (type : ℕ) → type ≤ 3 → Shaped type frame →
+      statusOnArrival (d .image) (d .state) frame ≡ orElse (counterStatus type c 4) (slotStatus type (slotFor d frame) hasKey)
+  unfolding statusOnArrival arrivalStatus shapeStatus pick
+  past-shape type known shaped =
+      rw (
+        shaped .typed,
+        le-ltb 3 type known,
+        eq-eqb (length frame) (frameLength type) (shaped .sized),
+        shaped .reserved,
+        ready .four,
+      )
+
+  -- nor does check 4
+  pub past-counter :
+      (type : ℕ) → type ≤ 3 → InOrder type frame → statusOnArrival (d .image) (d .state) frame ≡ slotStatus type (slotFor d frame) hasKey
+  unfolding counterStatus pick
+  past-counter type known in-order = past-shape type known (in-order .shaped) ∙ rw (lt-ltb c 4 (in-order .named))
+
+  -- a frame that fails on arrival ends with its status
+  fails :
+      getD frame 0 0 ≡ 0x9B → 1 < length frame → (status : ℕ) → statusOnArrival (d .image) (d .state) frame ≡ status → eqb status 0 ≡ false →
+      Ends status (called (Frame frame) d)
+  unfolding taken
+  fails first long status decided bad =
+      let failed = arrived-fails (d .image) (d .state) frame (rw decided bad) in
+      let after = command-called d ready frame first long ∙ ap (device (d .image)) failed in
+      subst (Ends status) (sym after) (ready .none, decided)
+
+  shaped-fails :
+      (type : ℕ) → Shaped type frame → (status : ℕ) → statusOnArrival (d .image) (d .state) frame ≡ status → eqb status 0 ≡ false →
+      Ends status (called (Frame frame) d)
+  shaped-fails type shaped = fails (shaped .first) (shaped-long type frame shaped)
+
+  pub alone : Holds P1 d frame
+  unfolding allCalled classOf namedClass withEnabled pick
+  alone e = rw e (ap (λ (after : Device). after .state .status) (frame-called d ready (0x9B ∷ [])))
+
+  pub short : Holds P2 d frame
+  unfolding allCalled statusOnArrival arrivalStatus shapeStatus frameLength pick
+  short e = fails (rw e) (rw e (omega arith)) 0x04 (rw e) refl
+
+  pub unknown-type : Holds P3 d frame
+  unfolding allCalled statusOnArrival arrivalStatus shapeStatus pick
+  unknown-type e = fails (rw e) (rw e (omega arith)) 0x04 (rw e) refl
+
+  pub root-key-beyond : Holds P4 d frame
+  unfolding allCalled counterStatus pick
+  root-key-beyond (shaped, beyond) = shaped-fails 0 shaped 0x06 (past-shape 0 (omega arith) shaped ∙ rw beyond) refl
+
+  pub session-key-beyond : Holds P5 d frame
+  unfolding allCalled counterStatus pick
+  session-key-beyond (shaped, beyond) = shaped-fails 1 shaped 0x04 (past-shape 1 (omega arith) shaped ∙ rw beyond) refl
+
+  -- a frame in order that fails by its slot or its session key
+  slot-fails :
+      (type : ℕ) → type ≤ 3 → InOrder type frame → (status : ℕ) → slotStatus type (slotFor d frame) hasKey ≡ status → eqb status 0 ≡ false →
+      Ends status (called (Frame frame) d)
+  slot-fails type known in-order status decided = shaped-fails type (in-order .shaped) status (past-counter type known in-order ∙ decided)
+
+  pub session-key-unset : Holds P6 d frame
+  unfolding allCalled slotStatus stateStatus pick
+  session-key-unset (in-order, sane, unset) = slot-fails 1 (omega arith) in-order 0x02 (rw (sane, unset)) refl
+
+  pub request-without-key : Holds P7 d frame
+  unfolding allCalled slotStatus stateStatus pick
+  request-without-key (in-order, sane, set, none) = slot-fails 3 (omega arith) in-order 0x08 (rw (sane, set, none)) refl
+
+  pub root-key-set : Holds P8 d frame
+  unfolding allCalled slotStatus stateStatus pick
+  root-key-set (in-order, sane, set) = slot-fails 0 (omega arith) in-order 0x02 (rw (sane, set)) refl
+
+  pub bad-slot : Holds P13 d frame
+  unfolding allCalled slotStatus isBad pick
+  bad-slot (in-order, root) = slot-fails 3 (omega arith) in-order 0x20 (rw root) refl
+
+  -- reset-enable goes on, the read clears it, and the reset finds it off
+  pub no-reset : Holds P14 d frame
+  unfolding allCalled classOf namedClass withEnabled pick
+  no-reset e =
+      let on = frame-called d ready (0x66 ∷ []) in
+      let off = frame-called (enabledAs true d) (ready-enabled d ready true) (0x96 ∷ 0x00 ∷ []) in
+      let still = frame-called (enabledAs false d) (ready-enabled d ready false) (0x99 ∷ []) in
+      let after = ap (allCalled (Frame (0x96 ∷ 0x00 ∷ []) ∷ Frame (0x99 ∷ []) ∷ [])) on ∙ ap (called (Frame (0x99 ∷ []))) off ∙ still in
+      subst (Seen P14 d frame) (sym after) (refl, refl, refl)

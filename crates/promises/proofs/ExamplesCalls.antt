@@ -1,0 +1,102 @@
+-- What a row of the examples claims, and the calls on a ready device: a command frame is taken, and a work call does its quota of
+-- steps. Assumes nothing.
+use Prim.Native.Nat.{ℕ, _+_, _-_, _<_}
+use mathlib.Core.Path.{_≡_, refl, ap, sym, _∙_}
+use mathlib.Core.Logic.{inl}
+use mathlib.Core.Bool.{Bool, true, false}
+use mathlib.Core.List.{List, []}
+use native.Mathlib.Omega.{arith}
+use borrow.Author.Tests.{ltb-true, ltb-false, lt-ltb, ne-eqb}
+use lib.Dec.{ltb}
+use lib.ListN.{length, getD}
+use Rattle.words.specs.Choice.{pick}
+use Rattle.state.specs.Refusal.{isRunning}
+use Rattle.frames.specs.declared.Class.the-variants.{Command}
+use Rattle.frames.specs.Classes.{namedClass, classOf}
+use Rattle.device.specs.Frame.{withEnabled, stateAfter}
+use Rattle.device.specs.Work.{Device, run, stepsLeft, stepsDone}
+use Rattle.device.specs.Calls.{device}
+use Rattle.rules.specs.Whole.{outcome}
+use Rattle.rules.proofs.Runs.{run-idle, run-add}
+use Rattle.promises.specs.Orders.{Frame, Work, called, allCalled}
+use Rattle.promises.specs.Account.{Account, accounted}
+use Rattle.promises.specs.Examples.{Example, Ready, Given, script, Seen}
+use Rattle.promises.proofs.Slots.{same-header}
+use Rattle.promises.proofs.Enabled.{enabledAs}
+use Rattle.promises.proofs.Ends.{work-ends}
+use Rattle.promises.proofs.Sound.{accepted-laid, started, Sound}
+use Rattle.promises.proofs.FirstHalf.{frame-done, work-done, next, same-device}
+
+-- given what a row says, and called as it says, a device shows what it says
+abbrev pub Holds : Example → Device → List ℕ → Type 0
+Holds p d frame = Given p d frame → Seen p d frame (allCalled (script p frame) d)
+
+-- the steps done come to the quota: past the end of a job, steps change nothing
+quota-by : (n : ℕ) (d : Device) (b : Bool) → ltb n (stepsLeft d) ≡ b → run (stepsDone n d) d ≡ run n d
+quota-by n d true l =
+    let all : stepsDone n d ≡ n = omega (arith, ltb-true n (stepsLeft d) l) in
+    ap (λ (m : ℕ). run m d) all
+quota-by n d false l =
+    let left = stepsLeft d in
+    let least = ltb-false n left l in
+    let done : stepsDone n d ≡ left = omega (arith, least) in
+    let same : stepsDone (15 + left) d ≡ left = omega arith in
+    let idle : isRunning (run left d .state) ≡ false = rw same at (work-ends (15 + left) d (omega arith)) in
+    let more : n ≡ (n - left) + left = omega (arith, least) in
+    ap (λ (m : ℕ). run m d) done
+    ∙ sym (ap (λ (m : ℕ). run m d) more ∙ run-add (n - left) left d ∙ run-idle (n - left) (run left d) idle)
+
+-- a ready device, as what an order of calls starts from
+module _ (d : Device) (ready : Ready d) where
+  abbrev rested : Account
+  rested = record { device = d; asIf = outcome d; frame = [] }
+
+  sound : Sound rested
+  sound =
+      record {
+        accepted = ready .accepted;
+        state =
+            inl
+            (record {
+              formed = record { laid = accepted-laid (d .image) (ready .accepted); four = ready .four-keys; long = ready .long-keys };
+              none = ready .none;
+              header = same-header (d .image);
+              alike = record { status = refl; reply = refl; keys = refl; counters = λ c below. refl };
+            });
+      }
+
+  -- a frame is not refused
+  pub frame-called : (frame : List ℕ) → called (Frame frame) d ≡ device (d .image) (stateAfter (classOf frame) (d .image) (d .state) frame)
+  frame-called frame = frame-done rested sound frame
+
+  -- a device is ready with reset-enable on or off
+  pub ready-enabled : (b : Bool) → Ready (enabledAs b d)
+  unfolding withEnabled
+  ready-enabled b =
+      record {
+        accepted = ready .accepted;
+        four = ready .four;
+        none = ready .none;
+        four-keys = ready .four-keys;
+        long-keys = ready .long-keys;
+      }
+
+  -- a command frame
+  module _ (frame : List ℕ) (first : getD frame 0 0 ≡ 0x9B) (long : 1 < length frame) where
+    is-command : classOf frame ≡ Command
+    unfolding classOf namedClass pick
+    is-command =
+        rw (ne-eqb (length frame) 0 (λ none. omega (arith, none)), first, lt-ltb 1 (length frame) long)
+
+    -- is taken
+    pub command-called : called (Frame frame) d ≡ started d frame
+    unfolding pick
+    command-called = frame-called frame ∙ rw (is-command, ready .none)
+
+    -- and then worked on
+    pub work-called : (n : ℕ) → called (Work n) (called (Frame frame) d) ≡ run n (started d frame)
+    work-called n =
+        let taken = accounted (Frame frame) rested in
+        let same = same-device (Frame frame) rested in
+        ap (called (Work n)) (sym same) ∙ work-done taken (next (Frame frame) rested sound) n ∙ quota-by n (taken .device) _ refl
+        ∙ ap (run n) (same ∙ command-called)

@@ -1,0 +1,71 @@
+-- The cuts of P10: what the stores made so far leave of the counter's slot. Assumes nothing.
+use Prim.Native.Nat.{ℕ, _<_}
+use mathlib.Core.Path.{_≡_, refl, ap, sym, _∙_}
+use mathlib.Core.Bool.{true}
+use mathlib.Core.List.{List}
+use lib.ListN.{take}
+use Rattle.words.specs.Choice.{pick}
+use Rattle.words.specs.Table.{table}
+use Rattle.words.specs.Words.{wordAt, putWord}
+use Rattle.image.specs.Header.{count}
+use Rattle.image.specs.Slot.{slotOf, unset}
+use Rattle.checks.specs.Layout.{counterOf}
+use Rattle.checks.specs.declared.Kind.the-variants.{RootKeyAndCounter}
+use Rattle.plan.specs.declared.Store.{Store}
+use Rattle.plan.specs.Stores.{keyStores, stores}
+use Rattle.arrival.specs.Arrival.{frameKept}
+use Rattle.device.specs.Work.{Device}
+use Rattle.rules.specs.Whole.{allStored}
+use Rattle.promises.specs.Compared.{Counter, counterIn}
+use Rattle.promises.specs.Orders.{allCalled}
+use Rattle.promises.specs.Examples.{P10-cut-after-14, P10-cut-after-13, Ready, Pairs, Seen, script}
+use Rattle.promises.proofs.Slots.{Laid, same-laid, slotBytes}
+use Rattle.promises.proofs.Counters.{readCounter, root-in, counter-in, counter-read}
+use Rattle.promises.proofs.Storing.{allInside, putAll, all-stored}
+use Rattle.promises.proofs.Sound.{accepted-laid}
+use Rattle.promises.proofs.ExamplesJobs.{pairing, nine-and-ten}
+
+module _ (d : Device) (ready : Ready d) (frame : List ℕ) (p : Pairs d frame) where
+  abbrev c : ℕ
+  c = counterOf frame
+
+  abbrev plan : List Store
+  plan = stores RootKeyAndCounter (frameKept frame) 0
+
+  laid : Laid (d .image)
+  laid = accepted-laid (d .image) (ready .accepted)
+
+  below : c < count (d .image)
+  below = rw (ready .four) (p .in-order .named)
+
+  found-unset : wordAt (slotBytes (d .image) c) 0 ≡ unset
+  found-unset = sym (root-in (d .image) c laid below) ∙ p .root
+
+  -- the image after some stores, and what it shows of the counter
+  abbrev imageAt : ℕ → List ℕ
+  imageAt m = allStored (take m plan) (d .image) c
+
+  shown : (m : ℕ) → allInside (take m plan) ≡ true → counterIn (imageAt m) c ≡ readCounter (putAll (take m plan) (slotBytes (d .image) c))
+  shown m inside =
+      let made = all-stored (take m plan) (d .image) c laid below inside in
+      counter-read (imageAt m) c (same-laid (imageAt m) (d .image) (made .header) laid) (rw (made .header .counters) below)
+      ∙ ap readCounter (made .own)
+
+  pub cut-after-14 : Seen P10-cut-after-14 d frame (allCalled (script P10-cut-after-14 frame) d)
+  unfolding allCalled allInside putAll putWord keyStores table readCounter counterIn pick
+  cut-after-14 =
+      let after = ap (λ (x : Device). x .image) (pairing d ready frame p 10 ∙ nine-and-ten _ _ _ _ _ _ _ _ _ .1) in
+      let now = shown 10 refl in
+      let set : slotOf (imageAt 10) c .counter ≡ 0 = ap (λ (x : Counter). x .counter) now in
+      let value : slotOf (imageAt 10) c .value ≡ 0 = rw set at (ap (λ (x : Counter). x .value) now) in
+      let root = ap (λ (x : Counter). x .root) now ∙ found-unset in
+      rw after (set, value, root)
+
+  pub cut-after-13 : Seen P10-cut-after-13 d frame (allCalled (script P10-cut-after-13 frame) d)
+  unfolding allCalled allInside putAll putWord keyStores table readCounter counterIn pick
+  cut-after-13 =
+      let after = ap (λ (x : Device). x .image) (pairing d ready frame p 9 ∙ nine-and-ten _ _ _ _ _ _ _ _ _ .0) in
+      let now = shown 9 refl in
+      let counter = ap (λ (x : Counter). x .counter) now ∙ sym (counter-in (d .image) c laid below) ∙ p .counter in
+      let root = ap (λ (x : Counter). x .root) now ∙ found-unset in
+      rw after (counter, root)

@@ -1,0 +1,137 @@
+-- The examples whose job runs: P9, P11 and P12, and the device that the cuts of P10 find. Assumes nothing.
+use Prim.Native.Nat.{ℕ, _+_, _≤_}
+use mathlib.Core.Path.{_≡_, refl, ap, sym, subst, _∙_}
+use mathlib.Core.List.{List}
+use native.Mathlib.Omega.{arith}
+use borrow.Author.Tests.{eq-eqb}
+use lib.ListN.{take, replicate}
+use Rattle.words.specs.Choice.{pick}
+use Rattle.words.specs.Words.{wordOr0}
+use Rattle.words.proofs.Table.{length-table}
+use Rattle.image.specs.Slot.{isBad, rootKey}
+use Rattle.checks.specs.Layout.{counterOf, field}
+use Rattle.checks.specs.Checks.{stateStatus, slotStatus}
+use Rattle.checks.specs.Jobs.{rootKind, kindOf}
+use Rattle.checks.specs.declared.Command.the-variants.{WriteRootKey, IncrementCounter}
+use Rattle.checks.specs.declared.Kind.{Kind}
+use Rattle.checks.specs.declared.Kind.the-variants.{RootKeyAndCounter, Nothing, Increment}
+use Rattle.verdict.specs.Signature.{signatureStatus}
+use Rattle.verdict.specs.Verdict.{incrementStatus, verdict}
+use Rattle.plan.specs.Stores.{keyStores, stores, storeOf}
+use Rattle.state.specs.declared.Key.{Key}
+use Rattle.state.specs.declared.State.{State}
+use Rattle.state.specs.Parts.{posted, sessionKey}
+use Rattle.state.specs.Refusal.{isRunning}
+use Rattle.steps.specs.Ending.{withStep, advanced}
+use Rattle.steps.specs.Deciding.{withKept, verdictOf, decided}
+use Rattle.steps.specs.Step.{stepState, stepImage}
+use Rattle.arrival.specs.Arrival.{frameKept, jobOf, taken}
+use Rattle.device.specs.Work.{Device, stepped, run}
+use Rattle.device.specs.Calls.{device}
+use Rattle.rules.specs.Whole.{kindIn, valueIn, keyThere, allStored}
+use Rattle.rules.proofs.Runs.{run-add}
+use Rattle.rules.proofs.Hashing.{busy, fourth-hmac, begun, hashedAt, afterFour, four-steps}
+use Rattle.rules.proofs.RunsWhole.{short, arrived-starts}
+use Rattle.promises.specs.Orders.{Frame, Work, called, allCalled}
+use Rattle.promises.specs.Examples.{P9-after-14, P9-after-15, P11, P12, Ready, slotFor, InOrder, Good, Pairs, Ends, Seen}
+use Rattle.promises.proofs.Sound.{started}
+use Rattle.promises.proofs.ExamplesCalls.{Holds, work-called}
+use Rattle.promises.proofs.ExamplesArrival.{shaped-long, past-counter}
+
+-- the stores of a root key job, after nine and ten of its eleven
+module _ (image : List ℕ) (keys : List Key) (counter : ℕ) (frame root chain made inner : List ℕ) (kept : ℕ) where
+  abbrev Stores : ℕ → Type 0
+  Stores m =
+      run m (device image (advanced (busy RootKeyAndCounter keys counter frame root 3 chain made inner kept))) ≡
+      device (allStored (take m (stores RootKeyAndCounter frame kept)) image counter)
+      (busy RootKeyAndCounter keys counter frame root (m + 4) chain made inner kept)
+
+  pub nine-and-ten : Stores 9 × Stores 10
+  unfolding run stepped stepState stepImage isRunning pick advanced withStep storeOf keyStores allStored
+  nine-and-ten = (refl, refl)
+
+module _ (d : Device) (ready : Ready d) (frame : List ℕ) where
+  abbrev c : ℕ
+  c = counterOf frame
+
+  abbrev sent : List ℕ
+  sent = frameKept frame
+
+  abbrev root : List ℕ
+  root = rootKey (d .image) c
+
+  abbrev start : Kind → State
+  start kind = begun (d .image) (d .state .keys) c sent root (d .state .chain) (replicate 32 0) (replicate 8 0) 0 kind
+
+  -- with the digest to be checked, and checked
+  abbrev hashed : Kind → State
+  hashed kind = hashedAt (d .image) (d .state .keys) c sent root (d .state .chain) (replicate 32 0) (replicate 8 0) 0 kind
+
+  abbrev checked : Kind → State
+  checked kind = afterFour (d .image) (d .state .keys) c sent root (d .state .chain) (replicate 32 0) (replicate 8 0) 0 kind
+
+  -- a frame that passes on arrival starts a job of its kind: its steps after the check
+  works :
+      (type : ℕ) → type ≤ 3 → InOrder type frame → slotStatus type (slotFor d frame) (sessionKey (d .state) c .there) ≡ 0 →
+      (kind : Kind) → kindIn d frame ≡ kind → (after : State) → checked kind ≡ after → (m : ℕ) →
+      called (Work (m + 4)) (called (Frame frame) d) ≡ run m (device (d .image) after)
+  unfolding taken jobOf
+  works type known in-order good kind is after decides m =
+      let shaped = in-order .shaped in
+      let passed = eq-eqb _ 0 (past-counter d ready frame type known in-order ∙ good) in
+      let starts = arrived-starts (d .image) (d .state) frame passed ∙ ap start is in
+      work-called d ready frame (shaped .first) (shaped-long type frame shaped) (m + 4) ∙ run-add m 4 (started d frame)
+      ∙ ap (run m)
+      (ap (λ (s : State). run 4 (device (d .image) s)) starts ∙ four-steps _ _ _ _ _ _ _ _ _ kind ∙ ap (device (d .image)) decides)
+
+  -- a good root key frame passes its check
+  root-good : Good WriteRootKey d frame → verdictOf (hashed Nothing) (valueIn d frame) ≡ 0
+  unfolding verdict signatureStatus pick
+  root-good good =
+      rw (fourth-hmac (field 4 32 sent) (field 0 4 sent) (d .state .chain) (replicate 8 0) (length-table _ 32) (short 0 4 sent (omega arith)), good)
+
+  -- a good increment at FFFFFFFFh does not
+  increment-full :
+      Good IncrementCounter d frame → wordOr0 sent 4 ≡ 0xFFFFFFFF → valueIn d frame ≡ 0xFFFFFFFF →
+      verdictOf (hashed Increment) (valueIn d frame) ≡ 0x20
+  unfolding verdict signatureStatus incrementStatus pick
+  increment-full good told full =
+      rw (
+        fourth-hmac (keyThere d frame) (field 0 8 sent) (d .state .chain) (replicate 8 0) (ready .long-keys c) (short 0 8 sent (omega arith)),
+        good,
+        told,
+        full,
+      )
+
+  -- a frame that pairs passes, and goes on to its stores
+  pub pairing :
+      Pairs d frame → (m : ℕ) →
+      called (Work (m + 4)) (called (Frame frame) d) ≡ run m (device (d .image) (advanced (hashed RootKeyAndCounter)))
+  unfolding kindOf rootKind slotStatus stateStatus isBad decided withKept pick
+  pairing p =
+      works 0 (omega arith) (p .in-order) (rw (p .root, p .counter)) RootKeyAndCounter
+      (rw (p .in-order .shaped .typed, p .lasting, p .counter)) _ (rw (root-good (p .good)))
+
+  pub busy-after-14 : Holds P9-after-14 d frame
+  unfolding allCalled
+  busy-after-14 p = subst (Seen P9-after-14 d frame) (sym (pairing p 10 ∙ nine-and-ten _ _ _ _ _ _ _ _ _ .1)) (refl, refl)
+
+  pub done-after-15 : Holds P9-after-15 d frame
+  unfolding allCalled run stepped stepState isRunning advanced withStep pick
+  done-after-15 p = subst (Ends 0x80) (sym (pairing p 11)) (refl, refl)
+
+  pub temporary-key : Holds P11 d frame
+  unfolding allCalled kindOf rootKind slotStatus stateStatus isBad run decided withKept advanced pick
+  temporary-key (in-order, root, counter, value, temporary, good) =
+      let after =
+      works 0 (omega arith) in-order (rw (root, counter)) Nothing (rw (in-order .shaped .typed, temporary, counter))
+      (posted (hashed Nothing) 0x80) (rw (root-good good)) 0 in
+      subst (Seen P11 d frame) (sym after) ((refl, refl), value)
+
+  pub full-counter : Holds P12 d frame
+  unfolding allCalled kindOf slotStatus stateStatus run decided pick
+  full-counter (in-order, sane, set, key, good, told, full) =
+      let after =
+      works 2 (omega arith) in-order (rw (sane, set, key)) Increment (rw (in-order .shaped .typed))
+      (posted (hashed Increment) 0x20) (rw (increment-full good told full)) 0 in
+      subst (Ends 0x20) (sym after) (refl, refl)

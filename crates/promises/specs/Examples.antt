@@ -1,0 +1,145 @@
+-- Document 01, "Examples at the edges": the cases marked P, as one table. Each row says what it is given, what is called, and what is
+-- seen then. "Good" means the signature verifies. Assumes nothing.
+use Prim.Native.Nat.{ℕ, _<_}
+use mathlib.Core.Path.{_≡_}
+use mathlib.Core.Bool.{Bool, true, false}
+use mathlib.Core.List.{List, [], _∷_}
+use lib.ListN.{length, getD}
+use Rattle.words.specs.Words.{wordOr0}
+use Rattle.image.specs.Header.{count}
+use Rattle.image.specs.declared.Slot.{Slot}
+use Rattle.image.specs.Slot.{slotOf, unset, isSet, isBad}
+use Rattle.image.specs.Refusal.{refusal}
+use Rattle.checks.specs.Layout.{typeOf, counterOf, reservedOf, frameLength}
+use Rattle.checks.specs.declared.Command.{Command}
+use Rattle.checks.specs.declared.Command.the-variants.{WriteRootKey, IncrementCounter}
+use Rattle.verdict.specs.Signature.{signatureHolds}
+use Rattle.state.specs.Parts.{noKey, sessionKey}
+use Rattle.arrival.specs.Arrival.{frameKept, isTemporary}
+use Rattle.device.specs.Work.{Device}
+use Rattle.rules.specs.Whole.{signature, valueIn}
+use Rattle.promises.specs.Orders.{Call, PowerUp, Frame, Work}
+use Rattle.promises.specs.Account.{isBusy}
+
+-- the rows; P9 and P10 make two claims each
+pub data Example : Type 0 where
+  P1 : Example
+  P2 : Example
+  P3 : Example
+  P4 : Example
+  P5 : Example
+  P6 : Example
+  P7 : Example
+  P8 : Example
+  P9-after-14 : Example
+  P9-after-15 : Example
+  P10-cut-after-14 : Example
+  P10-cut-after-13 : Example
+  P11 : Example
+  P12 : Example
+  P13 : Example
+  P14 : Example
+
+-- an idle device with an image of 4 counters
+pub record Ready (d : Device) : Type 0 where
+  pub accepted : refusal (d .image) ≡ 0
+  pub four : count (d .image) ≡ 4
+  pub none : isBusy d ≡ false
+  pub four-keys : length (d .state .keys) ≡ 4
+  pub long-keys : (k : ℕ) → length (getD (d .state .keys) k noKey .bytes) ≡ 32
+
+-- the slot of a frame's counter
+abbrev pub slotFor : Device → List ℕ → Slot
+slotFor d frame = slotOf (d .image) (counterOf frame)
+
+-- a command frame of a type, with its length and the reserved byte in order
+pub record Shaped (type : ℕ) (frame : List ℕ) : Type 0 where
+  pub first : getD frame 0 0 ≡ 0x9B
+  pub typed : typeOf frame ≡ type
+  pub sized : length frame ≡ frameLength type
+  pub reserved : reservedOf frame ≡ 0
+
+-- with its counter in order too
+pub record InOrder (type : ℕ) (frame : List ℕ) : Type 0 where
+  pub shaped : Shaped type frame
+  pub named : counterOf frame < 4
+
+abbrev pub Good : Command → Device → List ℕ → Type 0
+Good command d frame = signatureHolds command (frameKept frame) (signature command d frame) ≡ true
+
+-- a root key frame with a key that is not all FFh, for a counter with nothing set, and with a good signature
+pub record Pairs (d : Device) (frame : List ℕ) : Type 0 where
+  pub in-order : InOrder 0 frame
+  pub root : slotFor d frame .root ≡ unset
+  pub counter : slotFor d frame .counter ≡ unset
+  pub lasting : isTemporary (frameKept frame) ≡ false
+  pub good : Good WriteRootKey d frame
+
+-- what a row is given
+abbrev pub Given : Example → Device → List ℕ → Type 0
+Given P1 d frame = frame ≡ 0x9B ∷ []
+Given P2 d frame = frame ≡ 0x9B ∷ 0x00 ∷ []
+Given P3 d frame = frame ≡ 0x9B ∷ 0x04 ∷ []
+Given P4 d frame = Shaped 0 frame × (counterOf frame ≡ 4)
+Given P5 d frame = Shaped 1 frame × (counterOf frame ≡ 4)
+Given P6 d frame = InOrder 1 frame × (isBad (slotFor d frame) ≡ false) × (isSet (slotFor d frame .counter) ≡ false)
+Given P7 d frame =
+    InOrder 3 frame × (isBad (slotFor d frame) ≡ false) × (isSet (slotFor d frame .counter) ≡ true)
+    × (sessionKey (d .state) (counterOf frame) .there ≡ false)
+Given P8 d frame = InOrder 0 frame × (isBad (slotFor d frame) ≡ false) × (isSet (slotFor d frame .root) ≡ true)
+Given P9-after-14 d frame = Pairs d frame
+Given P9-after-15 d frame = Pairs d frame
+Given P10-cut-after-14 d frame = Pairs d frame
+Given P10-cut-after-13 d frame = Pairs d frame
+Given P11 d frame =
+    InOrder 0 frame × (slotFor d frame .root ≡ unset) × (slotFor d frame .counter ≡ 0) × (slotFor d frame .value ≡ 7)
+    × (isTemporary (frameKept frame) ≡ true) × Good WriteRootKey d frame
+Given P12 d frame =
+    InOrder 2 frame × (isBad (slotFor d frame) ≡ false) × (isSet (slotFor d frame .counter) ≡ true)
+    × (sessionKey (d .state) (counterOf frame) .there ≡ true) × Good IncrementCounter d frame
+    × (wordOr0 (frameKept frame) 4 ≡ 0xFFFFFFFF) × (slotFor d frame .value ≡ 0xFFFFFFFF)
+Given P13 d frame = InOrder 3 frame × (slotFor d frame .root ≡ 5)
+Given P14 d frame = frame ≡ []
+
+-- what is called
+abbrev pub script : Example → List ℕ → List Call
+script P1 frame = Frame frame ∷ []
+script P2 frame = Frame frame ∷ []
+script P3 frame = Frame frame ∷ []
+script P4 frame = Frame frame ∷ []
+script P5 frame = Frame frame ∷ []
+script P6 frame = Frame frame ∷ []
+script P7 frame = Frame frame ∷ []
+script P8 frame = Frame frame ∷ []
+script P9-after-14 frame = Frame frame ∷ Work 14 ∷ []
+script P9-after-15 frame = Frame frame ∷ Work 15 ∷ []
+script P10-cut-after-14 frame = Frame frame ∷ Work 14 ∷ PowerUp ∷ []
+script P10-cut-after-13 frame = Frame frame ∷ Work 13 ∷ PowerUp ∷ []
+script P11 frame = Frame frame ∷ Work 4 ∷ []
+script P12 frame = Frame frame ∷ Work 4 ∷ []
+script P13 frame = Frame frame ∷ []
+script P14 frame = Frame (0x66 ∷ []) ∷ Frame (0x96 ∷ 0x00 ∷ []) ∷ Frame (0x99 ∷ []) ∷ []
+
+-- idle, with this status
+abbrev pub Ends : ℕ → Device → Type 0
+Ends status d = (isBusy d ≡ false) × (d .state .status ≡ status)
+
+-- what is seen
+abbrev pub Seen : Example → Device → List ℕ → Device → Type 0
+Seen P1 d frame after = after .state .status ≡ d .state .status
+Seen P2 d frame after = Ends 0x04 after
+Seen P3 d frame after = Ends 0x04 after
+Seen P4 d frame after = Ends 0x06 after
+Seen P5 d frame after = Ends 0x04 after
+Seen P6 d frame after = Ends 0x02 after
+Seen P7 d frame after = Ends 0x08 after
+Seen P8 d frame after = Ends 0x02 after
+Seen P9-after-14 d frame after = (isBusy after ≡ true) × (after .state .status ≡ 0x01)
+Seen P9-after-15 d frame after = Ends 0x80 after
+Seen P10-cut-after-14 d frame after =
+    (slotFor after frame .counter ≡ 0) × (slotFor after frame .value ≡ 0) × (slotFor after frame .root ≡ unset)
+Seen P10-cut-after-13 d frame after = (slotFor after frame .counter ≡ unset) × (slotFor after frame .root ≡ unset)
+Seen P11 d frame after = Ends 0x80 after × (slotFor after frame .value ≡ 7)
+Seen P12 d frame after = Ends 0x20 after
+Seen P13 d frame after = Ends 0x20 after
+Seen P14 d frame after = (after .state .status ≡ d .state .status) × (after .state .keys ≡ d .state .keys) × (after .state .reply ≡ d .state .reply)
