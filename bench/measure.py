@@ -9,7 +9,7 @@ import os
 import sys
 
 from contestants import CONTESTANTS, FOLDER, WORK
-from counter import EMULATOR, output, per_call
+from counter import EMULATOR, output, per_call, processor_time
 
 CHECKED_CALLS = 1000
 ROUNDS = 41
@@ -58,23 +58,13 @@ def count_all(contestants):
     return counts
 
 
-def processor_time(contestant, what, n):
-    """The processor time of a whole run in nanoseconds: waiting for a processor is not in it."""
-    quiet = [(os.POSIX_SPAWN_OPEN, 1, os.devnull, os.O_WRONLY, 0)]
-    child = os.posix_spawn(
-        contestant.path, contestant.command(what, n), contestant.settings, file_actions=quiet
-    )
-    _, status, usage = os.wait4(child, 0)
-    if status != 0:
-        sys.exit(f"bench: {contestant.title} ended with status {status} while timed")
-    return 1e9 * (usage.ru_utime + usage.ru_stime)
-
-
 def time_call(contestant, what):
     """The nanoseconds a call: the program's start and its first call are taken off."""
     calls = TIMED_CALLS[what]
-    start = processor_time(contestant, what, 1)
-    return (processor_time(contestant, what, 1 + calls) - start) / calls
+    start, whole = [
+        processor_time(contestant.command(what, n), contestant.settings) for n in (1, 1 + calls)
+    ]
+    return 1e9 * (whole - start) / calls
 
 
 def time_all(contestants):

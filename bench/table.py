@@ -1,6 +1,6 @@
 """Makes the benchmark's tables from what was measured.
 
-   table.py                    prints them and writes target/bench/hash.md and device.md
+   table.py                    prints them and writes target/bench/hash.md, device.md and program.md
    table.py --write DOCUMENT   and replaces what stands between the document's marks
    table.py --marks DOCUMENT   only sees that the marks are there"""
 
@@ -9,10 +9,11 @@ import sys
 from statistics import median
 
 import device_table
+import lines_table
 from contestants import CONTESTANTS, FOLDER, LIBRARY, WORK
 from document import Table, facts, number, plain, read, split_at_marks, text_of, write_between_marks
 
-HASH_MARK, DEVICE_MARK = "bench", "device"
+HASH_MARK, DEVICE_MARK, PROGRAM_MARK = "bench", "device", "program"
 SAME_RUN = "Made in the same run as the tables of the hash."
 
 # The targets of the project, a block and a HMAC: what is to be reached, and what is aimed for.
@@ -105,6 +106,10 @@ def device_tables():
     return device_table.tables(json.loads(read("device.json")), block)
 
 
+def program_tables():
+    return lines_table.tables(json.loads(read("lines.json")))
+
+
 def hand_over(name, mark, opening, tables):
     """Prints the tables and writes them to a file, and to the document if one is named."""
     for table in tables:
@@ -120,11 +125,12 @@ def hand_over(name, mark, opening, tables):
 
 def main():
     if sys.argv[1:2] == ["--marks"]:
-        for mark in [HASH_MARK, DEVICE_MARK]:
+        for mark in [HASH_MARK, DEVICE_MARK, PROGRAM_MARK]:
             split_at_marks(sys.argv[2], mark)
         return
     hand_over("hash.md", HASH_MARK, facts(), hash_tables())
     hand_over("device.md", DEVICE_MARK, SAME_RUN, device_tables())
+    hand_over("program.md", PROGRAM_MARK, SAME_RUN, program_tables())
 
 
 main()

@@ -5,8 +5,8 @@ and both with what document 01 says.
 The same requests go to both, and their answers must be the same, byte for byte. First come the calls
 that are refused, single frames, the document's examples and every kind of job step by step: their
 answers are also compared with what the document wants, worked out in the tests. Then random
-requests; last, coverage: it fails if some refusal, status or kind of job was not reached. A run is
-fixed by its seed, which is printed.
+requests; last, coverage: it fails if something that document 01 names was not reached, as
+device_reached.py lists it. A run is fixed by its seed, which is printed.
 """
 
 import hashlib
@@ -21,7 +21,7 @@ import device_steps  # noqa: E402
 from blocks import after_first_block  # noqa: E402
 from device_bytes import POWER_ON, digits, image_of, put, slot  # noqa: E402
 from device_random import Walk  # noqa: E402
-from device_reached import WANTED, Reached  # noqa: E402
+from device_reached import Reached  # noqa: E402
 from device_talk import expect_same, try_cases, try_histories  # noqa: E402
 from programs import Comparison  # noqa: E402
 from tally import Failed, Tally  # noqa: E402
@@ -72,7 +72,7 @@ def compare_random(programs, rng, count, reached):
         first, second = [program.ask_lines(lines) for program in programs]
         expect_same(programs, lines, first, second)
         for walk, line, text in zip(walks, lines, first):
-            walk.go_on(reached.note(walk, line, text))
+            walk.go_on(reached.take(walk, line, text))
         asked += len(lines)
     if asked == 0:
         raise Failed("there was no such request")
@@ -90,8 +90,7 @@ def main():
         tally.test(name, lambda: try_histories(programs, histories()))
     tally.test("lines that are no request", lambda: try_cases(programs, no_requests()))
     tally.test("random requests", lambda: compare_random(programs, rng, given.count, reached))
-    for title in WANTED:
-        tally.test(f"coverage: {title}", lambda: reached.cover(title))
+    reached.test(tally)
     return tally.end()
 
 

@@ -8,6 +8,7 @@ from device_bytes import (
     FRAME_LENGTHS,
     HEADER_LENGTH,
     LENGTHS,
+    LONGEST_IMAGE,
     POWER_ON,
     SET,
     SLOT_LENGTH,
@@ -71,7 +72,10 @@ def fault(rng, image):
 
 def random_image(rng):
     slots = [random_slot(rng) for _ in range(rng.choice((1, 2, 3, 4, 4)))]
-    image = image_of(slots, rng.randbytes(4 * rng.choice((0, 0, 1, 5))), rng.randbytes(rng.choice((0, 0, 1, 6, 60))))
+    gap, behind = rng.randbytes(4 * rng.choice((0, 0, 1, 5))), rng.choice((0, 0, 1, 6, 60, 300))
+    if chance(rng, 0.003):  # a longest image, or one byte too long
+        behind = LONGEST_IMAGE - len(image_of(slots, gap)) + rng.choice((0, 0, 1))
+    image = image_of(slots, gap, rng.randbytes(behind))
     while chance(rng, 0.2):
         image = fault(rng, image) if len(image) > HEADER_LENGTH else image
     return image
@@ -139,7 +143,7 @@ def random_state(rng, image):
     counter = random_counter(rng, image)
     step = rng.randrange(LENGTHS[kind]) if chance(rng, 0.9) else rng.choice((LENGTHS[kind], 255, rng.randrange(256)))
     if chance(rng, 0.7):
-        step = 0 if chance(rng, 0.5) else step
+        step = 0 if chance(rng, 0.3) else step
         frame = good_frame(rng, image, state, TYPES_OF_KINDS[kind], counter).ljust(64, b"\0")
     flags = {name: rng.randrange(2) for name in ("enabled", "job", "reply_there")}
     status = rng.choice(STATUSES) if chance(rng, 0.9) else rng.randrange(256)
@@ -171,12 +175,15 @@ class Walk:
             self.renew()
         elif chance(rng, 0.04):
             self.state = random_state(rng, self.image)
-        self.letter = rng.choices("UFW", (3, 30, 67) if number(self.state, "job") else (4, 76, 20))[0]
+        is_busy = number(self.state, "job") == 1
+        self.letter = rng.choices("UFW", (9, 38, 53) if is_busy else (4, 76, 20))[0]
         if self.letter == "U":
             self.given = None
             return power_up_line(self.image)
         if self.letter == "F":
             self.given, self.output = random_frame(rng, self.image, self.state), rng.randbytes(rng.randrange(71))
+            if is_busy and chance(rng, 0.4):
+                self.given = b"\x99" if number(self.state, "enabled") else b"\x66"
             return frame_line(self.image, self.state, self.given, self.output)
         self.given = rng.choice((1, 1, rng.randrange(21), MOST))
         return work_line(self.image, self.state, self.given)

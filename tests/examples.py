@@ -8,11 +8,7 @@ Python's own hmac. P12 (value FFFFFFFFh) and P13 (root state 5) need an image th
 reaches, and are not here. The P of a name is the document's; rows without one stand there unmarked.
 """
 
-import os
-import select
-import subprocess
 import sys
-import time
 
 sys.dont_write_bytecode = True  # nothing is written beside the sources
 from frames import (  # noqa: E402
@@ -23,10 +19,8 @@ from frames import (  # noqa: E402
     session_key_frame,
     signature,
 )
-from tally import Failed, Tally  # noqa: E402
-
-PATIENCE = 20  # seconds for one answer
-FIRST_LINE = "counters 4"
+from talk import FIRST_LINE, at_once, converse, expect  # noqa: E402
+from tally import Tally  # noqa: E402
 
 SESSION_INPUT = ["P", "R 2", "F 9B07", "S 3", "R 1", "F 66", "F 99", "R 1"]
 SESSION_OUTPUT = """\
@@ -169,72 +163,8 @@ ROWS = [
 # ---- running them
 
 
-class Conversation:
-    """A running program, which is told a line and has to answer it before it is told the next."""
-
-    def __init__(self, command):
-        self.process = subprocess.Popen(command, stdin=subprocess.PIPE, stdout=subprocess.PIPE, bufsize=0)
-        self.heard = b""
-
-    def more(self, deadline):
-        """Reads what is there, waiting for some; gives nothing at the output's end."""
-        ready, _, _ = select.select([self.process.stdout], [], [], max(0, deadline - time.monotonic()))
-        if not ready:
-            raise Failed(f"no answer in {PATIENCE} seconds")
-        return os.read(self.process.stdout.fileno(), 65536)
-
-    def hear(self):
-        deadline = time.monotonic() + PATIENCE
-        while b"\n" not in self.heard:
-            piece = self.more(deadline)
-            if not piece:
-                raise Failed(f"it ended, after {self.heard!r}")
-            self.heard += piece
-        line, self.heard = self.heard.split(b"\n", 1)
-        return line.decode(errors="replace")
-
-    def say(self, line):
-        left = memoryview(line.encode() + b"\n")
-        try:
-            while left:
-                left = left[self.process.stdin.write(left):]
-        except BrokenPipeError:
-            raise Failed("it does not read on") from None
-
-    def end(self):
-        """Ends the input: nothing more may come, and the program ends well."""
-        self.process.stdin.close()
-        rest = self.heard + self.more(time.monotonic() + PATIENCE)
-        if rest:
-            raise Failed(f"it says more: {rest[:80]!r}")
-        if self.process.wait(PATIENCE) != 0:
-            raise Failed(f"it ended with status {self.process.returncode}")
-
-
-def expect(what, given, wanted):
-    if given != wanted:
-        raise Failed(f"{what}: `{given[:160]}`, not `{wanted[:160]}`")
-
-
-def converse(command, history):
-    talk = Conversation(command)
-    try:
-        expect("first line", talk.hear(), FIRST_LINE)
-        for line, wanted in history:
-            talk.say(line)
-            expect(f"answer to `{line[:160]}`", talk.hear(), wanted)
-        talk.end()
-    finally:
-        talk.process.kill()
-        talk.process.wait()
-        talk.process.stdout.close()
-    return f"{len(history)} lines"
-
-
-def at_once(command, text, wanted):
-    done = subprocess.run(command, input=text.encode(), stdout=subprocess.PIPE, timeout=PATIENCE)
-    expect("output", done.stdout.decode(errors="replace"), wanted)
-    expect("exit status", str(done.returncode), "0")
+def say_all(command, text, wanted):
+    expect("output", at_once(command, text.encode(), len(wanted)), wanted.encode())
 
 
 def main():
@@ -243,11 +173,12 @@ def main():
         sys.exit("usage: tests/examples.py COMMAND")
     tally = Tally()
     for name, history in ROWS:
-        tally.test(f"rpmcrun: {name}", lambda: converse(command, history))
+        pairs = [(line.encode(), wanted.encode()) for line, wanted in history]
+        tally.test(f"rpmcrun: {name}", lambda: converse(command, pairs))
     whole = "\n".join(SESSION_INPUT)
-    tally.test("rpmcrun: the session, at once", lambda: at_once(command, whole + "\n", SESSION_OUTPUT))
-    tally.test("rpmcrun: its last line without newline", lambda: at_once(command, whole, SESSION_OUTPUT))
-    tally.test("rpmcrun: no input", lambda: at_once(command, "", FIRST_LINE + "\n"))
+    tally.test("rpmcrun: the session, at once", lambda: say_all(command, whole + "\n", SESSION_OUTPUT))
+    tally.test("rpmcrun: its last line without newline", lambda: say_all(command, whole, SESSION_OUTPUT))
+    tally.test("rpmcrun: no input", lambda: say_all(command, "", FIRST_LINE.decode() + "\n"))
     return tally.end()
 
 

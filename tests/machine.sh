@@ -7,7 +7,7 @@
 #   need_tests              all that the tests need, asked for before the first of them
 #   x86_cc, x86_cxx         arrays: that C compiler, and its C++ compiler; the library's code is for x86-64
 #   x86_run                 array: what stands before an x86-64 program to run it, nothing on x86-64
-#   rattle_command NAME     sets the array `program` to the command that runs target/bin/NAME
+#   rattle_loader           array: what stands, behind x86_run, before a compiled Rattle program
 #
 # A need that is not met prints one line that names what is missing, and fails.
 
@@ -25,11 +25,13 @@ rattle_tools=$rattle_home/on/$machine/toolchain
 x86_cc=(gcc)
 x86_cxx=(g++)
 x86_run=()
+rattle_loader=()
 if [ "$machine" = aarch64 ]; then
     x86_cc=(x86_64-linux-gnu-gcc -static)
     x86_cxx=(x86_64-linux-gnu-g++ -static)
     x86_run=("$rattle_tools/bin/qemu-x86_64")
     [ -x "${x86_run[0]}" ] || x86_run=(qemu-x86_64)
+    rattle_loader=("$rattle_tools/lib/ld-linux-x86-64.so.2" --library-path "$rattle_tools/lib")
 fi
 
 there() { # COMMAND or FILE
@@ -83,12 +85,4 @@ need_tests() {
     need_rattle && need_x86_cc && need "${x86_cxx[0]}" "$cxx_package" && need gcc gcc &&
         need /usr/include/stdio.h libc6-dev && need qemu-x86_64 qemu-user && need make make &&
         need x86_64-linux-gnu-objdump binutils-x86-64-linux-gnu && need pkg-config pkg-config && need rustc rustc && need python3 python3
-}
-
-# An Arm machine runs it by its x86-64 loader, with the kit's C library, under the emulator.
-rattle_command() { # NAME
-    program=("$project/target/bin/$1")
-    if [ "$machine" = aarch64 ]; then
-        program=("${x86_run[@]}" "$rattle_tools/lib/ld-linux-x86-64.so.2" --library-path "$rattle_tools/lib" "${program[@]}")
-    fi
 }

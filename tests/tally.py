@@ -22,6 +22,10 @@ class Tally:
             self.passed += 1
             print(f"ok {name}" + (f" ({note})" if note else ""), flush=True)
 
+    def skip(self, name, why):
+        """Says why a test cannot be run here. It counts neither way."""
+        print(f"skip {name}: {why}", flush=True)
+
     def end(self):
         """Prints the last line and gives the exit status: a run without any test has failed."""
         print(f"{self.passed} passed, {self.failed} failed", flush=True)
