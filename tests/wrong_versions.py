@@ -180,7 +180,7 @@ PIPES = [
     Edit("all input is read first", "rpmcrun.rs", INPUT,
          "    let mut all = Vec::new();\n    io::Read::read_to_end(&mut io::stdin().lock(), &mut all)?;\n"
          "    let mut input = io::Cursor::new(all);\n", CONVERSATION),
-    Edit("a line in pieces is several lines", "rpmcrun.rs", "        if newline.is_some() {\n            return", 
+    Edit("a line in pieces is several lines", "rpmcrun.rs", "        if newline.is_some() {\n            return",
          "        {\n            return", CONVERSATION),
     Edit("bytes are read one by one", "rpmcrun.rs", INPUT,
          "    let mut input = io::BufReader::with_capacity(1, std::fs::File::open(\"/dev/stdin\")?);\n", ENDURANCE),

@@ -11,9 +11,9 @@ use Rattle.words.specs.Table.{table}
 use Rattle.hex.specs.Hex.{allDigits, byteAt, bytesIn, readable}
 
 module _ (room : ℕ) (text : List ℕ) where
-  pub too-long : room < length text / 2 → readable room text ≡ []
+  pub too-many : room < length text / 2 → readable room text ≡ []
   unfolding readable pick
-  too-long h = rw (lt-ltb room (length text / 2) h)
+  too-many h = rw (lt-ltb room (length text / 2) h)
 
   module _ (fits : length text / 2 ≤ room) where
     pub odd : (length text % 2 ≡ 0 → ⊥) → readable room text ≡ []

@@ -4,7 +4,8 @@
 // a device that does a block a step runs the same four. Contracts cite specs/: Hmac is FIPS 198-1, Quarters the four blocks.
 ghost use mathlib.Core.Path.{_≡_};
 ghost use lib.ListN.{length};
-ghost use Rattle.hmac.specs.Quarters.{keyBlock, blockOf, startOf, chainAfter};
+ghost use Rattle.words.specs.Words.{bytesOfAll};
+ghost use Rattle.hmac.specs.Quarters.{keyBlock, textBlock, blockOf, startOf, chainAfter};
 ghost use Rattle.hmac.specs.Answer.{signed};
 use hash::Answer;
 
@@ -43,6 +44,31 @@ fn key_block(key: [u8; 32], pad: u8) -> [u32; 16]
     hash::words_of(b)
 }
 
+// The block of the inner digest. Its words are at hand, so it is not spread into bytes to be read back: the words, the
+// mark, zeros, and the length in bits of 64 bytes of key and 32 of digest.
+fn digest_block(inner: [u32; 8]) -> [u32; 16]
+    ensures { λ r. ⌜ r ≡ textBlock (bytesOfAll inner) ⌝ }
+{
+    [
+        inner[0],
+        inner[1],
+        inner[2],
+        inner[3],
+        inner[4],
+        inner[5],
+        inner[6],
+        inner[7],
+        0x80000000,
+        0,
+        0,
+        0,
+        0,
+        0,
+        0,
+        768,
+    ]
+}
+
 // The sixteen words that a quarter hashes. It looks only at what its block is made of: the key, the message, or the
 // chaining words of the inner digest.
 fn quarter_block(q: Quarter, key: [u8; 32], message: &[u8], inner: [u32; 8]) -> [u32; 16]
@@ -52,10 +78,7 @@ fn quarter_block(q: Quarter, key: [u8; 32], message: &[u8], inner: [u32; 8]) -> 
         Quarter::KeyIpad => key_block(key, 0x36),
         Quarter::Message => hash::last_block(64, message),
         Quarter::KeyOpad => key_block(key, 0x5c),
-        Quarter::InnerDigest => {
-            let digest = hash::digest(inner);
-            hash::last_block(64, &digest)
-        }
+        Quarter::InnerDigest => digest_block(inner),
     }
 }
 

@@ -1,5 +1,9 @@
--- The laws of what is printed, and the cases of a line's turn.
+-- The laws of what is printed, the cases of a line's turn, that no line above 514 characters is known, and that each public function
+-- has one answer only.
 pub mod Front
 pub mod Turns
 pub mod Prefix
 pub mod Keeping
+pub mod TooLong
+pub mod Session
+pub mod OneAnswer

@@ -15,6 +15,7 @@ use Rattle.words.proofs.Table.{table-same, getD-table}
 use Rattle.image.specs.Header.{count, offset, slotAt}
 use Rattle.image.specs.Slot.{slotOf, isSet, rootKey}
 use Rattle.checks.specs.Layout.{field}
+use Rattle.checks.proofs.Fields.{field-word}
 use Rattle.checks.specs.declared.Kind.{Kind}
 use Rattle.checks.specs.declared.Kind.the-variants.{RootKeyAndCounter, RootKey, CounterOnly, Nothing, SessionKey, Increment, Request}
 use Rattle.plan.specs.declared.Store.{Store}
@@ -37,11 +38,7 @@ readCounter b =
 -- a word of a field of 48 bytes
 word-in : (image : List ℕ) (p k : ℕ) → k + 4 ≤ 48 → p + 48 ≤ length image → wordOr0 image (p + k) ≡ wordAt (field p 48 image) k
 unfolding pick
-word-in image p k h fits =
-    let byte : (m : ℕ) → m < 4 → getD (field p 48 image) (k + m) 0 ≡ getD image (p + k + m) 0 =
-    λ m l. getD-table (λ i. getD image (p + i) 0) 48 (k + m) 0 (omega arith) ∙ ap (λ (i : ℕ). getD image i 0) (omega arith) in
-    let byte₀ : getD (field p 48 image) k 0 ≡ getD image (p + k) 0 = getD-table (λ i. getD image (p + i) 0) 48 k 0 (omega arith) in
-    rw (le-leb (p + k + 4) (length image) (omega arith), byte₀, byte 1 (omega arith), byte 2 (omega arith), byte 3 (omega arith))
+word-in image p k h fits = rw (le-leb (p + k + 4) (length image) (omega arith)) (sym (field-word p 48 image k h))
 
 module _ (image : List ℕ) (c : ℕ) (laid : Laid image) (below : c < count image) where
   room : slotAt image c + 48 ≤ length image

@@ -78,25 +78,14 @@ fn key_of(command: Command, s: State) -> [u8; 32]
 pub fn tag_and_value(frame: [u8; 64], value: u32) -> [u8; 16]
     ensures { λ r. ⌜ r ≡ field 4 12 frame ++ bytesOf value ⌝ }
 {
-    let v = words::bytes(value);
-    [
-        frame[4],
-        frame[5],
-        frame[6],
-        frame[7],
-        frame[8],
-        frame[9],
-        frame[10],
-        frame[11],
-        frame[12],
-        frame[13],
-        frame[14],
-        frame[15],
-        v[0],
-        v[1],
-        v[2],
-        v[3],
-    ]
+    let mut m = [0u8; 16];
+    let mut i = 0;
+    while i < 12 {
+        m[i] = frame[4 + i];
+        i += 1;
+    }
+    words::put(&mut m, 12, value);
+    m
 }
 
 // The chaining words after a block of a session key job's HMACs: of the key data under the root key in use, then of the

@@ -82,23 +82,28 @@ fn answered(s: State, frame: [u8; 64], value: u32, chain: [u32; 8]) -> State
     with_reply(s, reply_bytes(message, signature))
 }
 
-// The state after the last step: 80h is posted, with the session key or the reply that the command is for.
+// The state after the last step: 80h is posted, with the session key or the reply that the command is for. Each arm returns by
+// itself: states that meet behind the arms would be put together byte by byte.
 fn finished_by(command: Command, s: State) -> State
     ensures { λ r. ⌜ r ≡ finishedBy command s ⌝ }
 {
     let done = state::posted(s, 0x80);
     let job = s.job;
     match command {
-        Command::WriteRootKey => done,
+        Command::WriteRootKey => {
+            return done;
+        }
         Command::UpdateSessionKey => {
             let made = job.made;
-            with_key(done, job.counter, made)
+            return with_key(done, job.counter, made);
         }
-        Command::IncrementCounter => done,
+        Command::IncrementCounter => {
+            return done;
+        }
         Command::RequestCounter => {
             let frame = job.frame;
             let chain = s.chain;
-            answered(done, frame, job.kept, chain)
+            return answered(done, frame, job.kept, chain);
         }
     }
 }

@@ -1,2 +1,3 @@
--- That each public function has one answer only.
+-- That comparing a signature's words is comparing its bytes, and that each public function has one answer only.
 pub mod OneAnswer
+pub mod ByWords

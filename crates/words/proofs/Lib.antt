@@ -2,6 +2,7 @@
 pub mod OneAnswer
 pub mod Unique
 pub mod Spread
+pub mod Back
 pub mod Choice
 pub mod Filling
 pub mod Inside

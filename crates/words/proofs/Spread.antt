@@ -8,7 +8,7 @@ use lib.ListN.{length, getD, take, length-append}
 use lib.Seq.{take-suc, length-take-le}
 use Rattle.words.specs.Table.{spread}
 
-spread-append : (f : ℕ → List ℕ) (v w : List ℕ) → spread f (v ++ w) ≡ spread f v ++ spread f w
+pub spread-append : (f : ℕ → List ℕ) (v w : List ℕ) → spread f (v ++ w) ≡ spread f v ++ spread f w
 unfolding spread
 spread-append f [] w = refl
 spread-append f (a ∷ v) w = rw (spread-append f v w, append-assoc (f a) (spread f v) (spread f w))

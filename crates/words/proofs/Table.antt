@@ -1,14 +1,14 @@
--- The laws of `table`: its length, and that a buffer filled place by place from the front becomes the table.
--- Assumes nothing.
+-- The laws of `table`: its length, that a buffer filled place by place from the front becomes the table, and that a list is the
+-- table of its elements. Assumes nothing.
 use mathlib.Core.Path.{_≡_, refl, ap, sym, _∙_}
 use mathlib.Core.List.{List, [], _∷_, _++_, append-nil}
-use Prim.Native.Nat.{ℕ, zero, suc, _+_, _<_}
+use Prim.Native.Nat.{ℕ, zero, suc, _+_, _≤_, _<_}
 use mathlib.Core.Logic.{⊎-elim}
 use native.Mathlib.Nat.{not-suc-le-zero, le-of-suc-le-suc, eq-or-lt-of-le}
 use native.Mathlib.Numerals.{add-one}
 use native.Mathlib.Omega.{arith}
-use lib.ListN.{length, getD, drop, set, length-append, drop-of-length-le, List·getD-append}
-use lib.Seq.{getD-at}
+use lib.ListN.{length, getD, take, drop, set, length-append, drop-of-length-le, List·getD-append}
+use lib.Seq.{take-suc, getD-at}
 use Rattle.words.specs.Table.{table}
 use Rattle.words.proofs.Filling.{fill-more}
 
@@ -31,6 +31,12 @@ pub table-same : (f g : ℕ → ℕ) (n : ℕ) → ((i : ℕ) → i < n → f i 
 unfolding table
 table-same f g zero e = refl
 table-same f g (suc n) e = rw (table-same f g n (λ i h. e i (omega arith)), e n (omega arith))
+
+-- a list's own elements
+pub table-take : (s : List ℕ) (n : ℕ) → n ≤ length s → table (λ i. getD s i 0) n ≡ take n s
+unfolding table
+table-take s zero h = refl
+table-take s (suc n) h = rw (table-take s n (omega arith), take-suc s n 0 h)
 
 -- the element at a place
 pub getD-table : (f : ℕ → ℕ) (n i d : ℕ) → i < n → getD (table f n) i d ≡ f i

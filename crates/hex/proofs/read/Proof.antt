@@ -5,14 +5,14 @@ use mathlib.Core.Path.{sym, _∙_}
 use lib.ListN.{length}
 use Rattle.words.proofs.Table.{length-table}
 use Rattle.hex.specs.Hex.{byteAt}
-use Rattle.hex.proofs.Readable.{too-long, odd, other, digits}
+use Rattle.hex.proofs.Readable.{too-many, odd, other, digits}
 use Rattle.hex.proofs.read.Statement.{statement}
 use Rattle.hex.proofs.read.Tie as tie
 
 returns : tie.Need-returns
 returns c =
     let a = c .before .before .before .args in
-    let none = too-long (length (a .out .now)) (a .text .now) (c .if1 .taken) in
+    let none = too-many (length (a .out .now)) (a .text .now) (c .if1 .taken) in
     (rw none, rw none)
 
 returns-2 : tie.Need-returns-2

@@ -1,6 +1,5 @@
 -- `quarter_block` meets its contract, quarter by quarter. Assumes nothing.
 use borrow.Author.Needs.{needs}
-use mathlib.Core.Path.{_∙_}
 use Rattle.hmac.proofs.quarter_block.Statement.{statement}
 use Rattle.hmac.proofs.quarter_block.Tie as tie
 
@@ -14,11 +13,10 @@ returns-3 : tie.Need-returns-3
 returns-3 c = rw (c .before .enum-told3 .given .1) (c .key-block2 .ensures)
 
 returns-4 : tie.Need-returns-4
-returns-4 c = rw (c .before .before .before .enum-told4 .given .1) (c .last-block2 .ensures ∙ rw (c .before .before .digest .ensures))
+returns-4 c = rw (c .before .enum-told4 .given .1) (c .digest-block .ensures)
 
 pub quarter-block-spec : {M : Type 1} → statement M
 quarter-block-spec =
     tie.close
     (tie.spec (λ c. search needs) (λ c κs. search needs) (λ c. search needs) (λ c κs. search needs)
-    (λ c. search needs) (λ c κs. search needs) (λ c. search needs) (λ c κs. search needs) (λ c. search needs)
-    (λ c κs. search needs) returns returns-2 returns-3 returns-4)
+    (λ c. search needs) (λ c κs. search needs) (λ c. search needs) (λ c κs. search needs) returns returns-2 returns-3 returns-4)

@@ -39,5 +39,5 @@ returns-4 c =
 pub finished-by-spec : {M : Type 1} → statement M
 finished-by-spec =
     tie.close
-    (tie.spec (λ c κs. search needs) (λ c. search needs) (λ c. search needs) (λ c κs. search needs) (λ c. search needs)
-    (λ c. search needs) (λ c κs. search needs) returns returns-2 returns-3 returns-4)
+    (tie.spec (λ c κs. search needs) (λ c. search needs) returns (λ c. search needs) (λ c κs. search needs) returns-2
+    (λ c. search needs) returns-3 (λ c. search needs) (λ c κs. search needs) returns-4)
