@@ -15,6 +15,7 @@ class Table:
     heading: list
     rows: list
     notes: list = field(default_factory=list)
+    picture: str = ""  # in the document only: a terminal shows none
 
 
 def read(name):
@@ -45,7 +46,8 @@ def markdown(table):
     if table.rows:
         rule = ["---"] + ["---:"] * (len(table.heading) - 1)
         lines = ["| " + " | ".join(row) + " |" for row in [table.heading, rule] + table.rows]
-    parts = [[table.caption], lines, [f"- {note}" for note in table.notes]]
+    shown = [table.picture] if table.picture else []
+    parts = [[table.caption], shown, lines, [f"- {note}" for note in table.notes]]
     return "\n\n".join("\n".join(part) for part in parts if part)
 
 

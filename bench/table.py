@@ -10,6 +10,7 @@ from statistics import median
 
 import device_table
 import lines_table
+import plot
 from contestants import CONTESTANTS, FOLDER, LIBRARY, WORK
 from document import Table, facts, number, plain, read, split_at_marks, text_of, write_between_marks
 
@@ -98,7 +99,7 @@ def size_table(results):
 
 def hash_tables():
     results = json.loads(read("results.json"))
-    return [count_table(results), time_table(results), size_table(results)]
+    return [count_table(results), time_table(results), plot.picture(results), size_table(results)]
 
 
 def device_tables():

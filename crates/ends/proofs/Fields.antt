@@ -1,11 +1,10 @@
 -- The fields of what a host builds, as the device keeps it. Assumes nothing.
 use Prim.Native.Nat.{ℕ, _+_, _≤_}
 use mathlib.Core.Path.{_≡_, refl, ap, sym, _∙_}
-use mathlib.Core.List.{List, [], _∷_, _++_, append-assoc}
+use mathlib.Core.List.{List, [], _++_}
 use native.Mathlib.Omega.{arith}
-use lib.ListN.{length, getD, take, drop, length-append}
+use lib.ListN.{length, getD, take, length-append}
 use lib.Seq.{take-length, take-at, drop-at}
-use Rattle.words.specs.Table.{table}
 use Rattle.words.proofs.Table.{table-same, getD-table}
 use Rattle.hmac.specs.Hmac.{HMAC}
 use Rattle.checks.specs.Layout.{counterOf, field}

@@ -1,13 +1,12 @@
 -- A frame that the host builds with the right keys passes the device's signature check, of each type and every counter.
 -- Assumes nothing.
 use Prim.Native.Nat.{ℕ, _+_}
-use mathlib.Core.Path.{_≡_, refl, ap, sym, _∙_}
-use mathlib.Core.List.{List, [], _++_, append-assoc}
+use mathlib.Core.Path.{_≡_, refl, _∙_}
+use mathlib.Core.List.{List, [], _++_}
 use native.Mathlib.Omega.{arith}
-use lib.ListN.{length, length-append}
+use lib.ListN.{length}
 use Rattle.words.specs.Choice.{pick}
 use Rattle.words.proofs.Table.{length-table}
-use Rattle.compare.specs.Compare.{sameBytes}
 use Rattle.compare.proofs.Agree.{same-self}
 use Rattle.hmac.specs.Hmac.{HMAC}
 use Rattle.checks.specs.Layout.{field}

@@ -5,10 +5,8 @@ use mathlib.Core.Bool.{true, false}
 use mathlib.Core.List.{List, [], _++_, append-assoc}
 use native.Mathlib.Omega.{arith}
 use borrow.Author.Tests.{lt-ltb, ne-eqb}
-use lib.Dec.{ltb, eqb}
 use lib.ListN.{length, getD, length-append}
 use Rattle.words.specs.Choice.{pick}
-use Rattle.words.specs.Table.{table}
 use Rattle.words.specs.Words.{bytesOf}
 use Rattle.words.proofs.Table.{length-table, table-same, getD-table}
 use Rattle.hmac.specs.Hmac.{HMAC}
@@ -16,15 +14,12 @@ use Rattle.frames.specs.declared.Reply.{Reply}
 use Rattle.frames.specs.Reading.{readByte, readOutput}
 use Rattle.checks.specs.Layout.{field}
 use Rattle.checks.proofs.Fields.{field-part}
-use Rattle.checks.specs.Checks.{orElse}
 use Rattle.checks.specs.Jobs.{kindOf}
-use Rattle.checks.specs.declared.Command.the-variants.{RequestCounter}
 use Rattle.checks.specs.declared.Kind.the-variants.{Request}
-use Rattle.verdict.specs.Signature.{signatureStatus}
 use Rattle.verdict.specs.Verdict.{verdict}
 use Rattle.arrival.specs.Arrival.{frameKept, statusOnArrival}
 use Rattle.device.specs.Work.{Device}
-use Rattle.rules.specs.Whole.{Outcome, kindIn, valueIn, keyThere, replyAfter, lastChecks, allChecks, carriedOut, whole}
+use Rattle.rules.specs.Whole.{kindIn, valueIn, keyThere, lastChecks, allChecks, carriedOut, whole}
 use Rattle.host.specs.Frames.{signedBy, requestFrame}
 use Rattle.host.specs.declared.Verdict.the-variants.{Good}
 use Rattle.host.specs.Reading.{readReply, partOf}

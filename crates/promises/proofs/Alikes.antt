@@ -6,10 +6,8 @@ use mathlib.Core.List.{List}
 use native.Mathlib.Omega.{arith}
 use borrow.Author.Tests.{eqb-true, eqb-false}
 use lib.Dec.{eqb}
-use lib.ListN.{length, getD, set}
+use lib.ListN.{length, getD}
 use lib.Seq.{ext-getD, getD-set-same}
-use Rattle.words.proofs.Table.{length-table}
-use Rattle.hmac.specs.Hmac.{HMAC}
 use Rattle.image.specs.Header.{count}
 use Rattle.checks.specs.Layout.{counterOf}
 use Rattle.checks.specs.Jobs.{commandOf}
@@ -19,7 +17,7 @@ use Rattle.state.specs.declared.Key.{Key}
 use Rattle.state.specs.Parts.{noKey}
 use Rattle.arrival.specs.Arrival.{frameKept, statusOnArrival}
 use Rattle.device.specs.Work.{Device}
-use Rattle.rules.specs.Whole.{Outcome, outcome, kindIn, newKey, refusedWith, keysAfter, carriedOut, whole}
+use Rattle.rules.specs.Whole.{outcome, kindIn, newKey, refusedWith, keysAfter, carriedOut, whole}
 use Rattle.rules.proofs.Hashing.{length-HMAC}
 use Rattle.rules.proofs.RunsWhole.{short, length-root}
 use Rattle.promises.specs.Compared.{counterIn, Alike}

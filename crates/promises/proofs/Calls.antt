@@ -3,19 +3,14 @@ use Prim.Native.Nat.{ℕ, zero, suc, _+_, _<_}
 use mathlib.Core.Path.{_≡_, refl, ap, sym, subst, _∙_}
 use mathlib.Core.Logic.{_⊎_, inl, inr, ⊎-elim}
 use mathlib.Core.Bool.{Bool, true, false}
-use mathlib.Core.List.{List, []}
+use mathlib.Core.List.{List}
 use native.Mathlib.Nat.{zero-sub}
 use native.Mathlib.Omega.{arith}
-use borrow.Author.Tests.{eqb-true, lt-ltb}
-use lib.Dec.{ltb, eqb}
-use lib.ListN.{length, getD, take, replicate}
+use borrow.Author.Tests.{eqb-true}
+use lib.Dec.{eqb}
+use lib.ListN.{length, getD, replicate}
 use Rattle.words.specs.Choice.{pick}
-use Rattle.words.proofs.Choice.{never, either}
-use Rattle.image.specs.Header.{count}
 use Rattle.image.specs.Refusal.{refusal}
-use Rattle.frames.specs.declared.Class.{Class}
-use Rattle.frames.specs.declared.Class.the-variants.{Empty, EnableReset, Reset, Read, Command, Unnamed}
-use Rattle.frames.specs.Classes.{classOf}
 use Rattle.checks.specs.Layout.{counterOf}
 use Rattle.checks.specs.Jobs.{lengthOf, commandOf, hashSteps}
 use Rattle.checks.specs.declared.Kind.{Kind}
@@ -23,21 +18,18 @@ use Rattle.checks.specs.declared.Kind.the-variants.{RootKeyAndCounter, RootKey,
 use Rattle.state.specs.declared.Key.{Key}
 use Rattle.state.specs.declared.State.{State}
 use Rattle.state.specs.Parts.{noKey, powerOn}
-use Rattle.state.specs.Refusal.{isRunning, jobRefusal, deviceRefusal}
-use Rattle.arrival.specs.Arrival.{frameKept, statusOnArrival, jobOf, taken, arrived}
-use Rattle.device.specs.Frame.{withEnabled, stateAfter}
-use Rattle.device.specs.Work.{Device, run, stepsDone}
-use Rattle.device.specs.Calls.{device, poweredUp, afterFrame, afterSteps, afterWork, imageAfterWork}
+use Rattle.arrival.specs.Arrival.{frameKept, statusOnArrival, jobOf, taken}
+use Rattle.device.specs.Frame.{withEnabled}
+use Rattle.device.specs.Work.{Device, run}
+use Rattle.device.specs.Calls.{device}
 use Rattle.rules.specs.Whole.{Outcome, outcome, kindIn, allStored, whole}
 use Rattle.rules.proofs.Runs.{run-idle, run-add}
 use Rattle.rules.proofs.RunsWhole.{arrived-starts, arrived-fails, runs-whole}
 use Rattle.promises.specs.Compared.{Alike}
-use Rattle.promises.specs.Orders.{Call, PowerUp, Frame, Work, called}
-use Rattle.promises.specs.Account.{Account, isBusy, idle, goneBy, worked, interrupted, restarted, cut, framed, accounted}
-use Rattle.promises.proofs.Slots.{SameHeader, same-header, then-header, back-header, same-laid}
-use Rattle.promises.proofs.Taken.{below-count}
+use Rattle.promises.specs.Account.{Account, isBusy, idle, goneBy, worked, interrupted, cut}
+use Rattle.promises.proofs.Slots.{SameHeader, then-header, back-header, same-laid}
 use Rattle.promises.proofs.WholeOwn.{Formed, whole-kept}
-use Rattle.promises.proofs.Progress.{At, no-job-idle, runs, progress}
+use Rattle.promises.proofs.Progress.{At, no-job-idle, progress}
 use Rattle.promises.proofs.Enabled.{enabledAs, run-same}
 use Rattle.promises.proofs.Alikes.{whole-formed, alike-whole}
 use Rattle.promises.proofs.Ends.{same-end}

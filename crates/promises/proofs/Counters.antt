@@ -1,29 +1,20 @@
 -- What is compared of a counter, as its slot's 48 bytes show it, before and after stores. Assumes nothing.
-use Prim.Native.Nat.{ℕ, _+_, _*_, _/_, _%_, _≤_, _<_}
-use mathlib.Core.Path.{_≡_, refl, ap, sym, _∙_}
-use mathlib.Core.Bool.{Bool, true, false}
-use mathlib.Core.List.{List, [], _∷_}
+use Prim.Native.Nat.{ℕ, _+_, _≤_, _<_}
+use mathlib.Core.Path.{_≡_, ap, sym, _∙_}
+use mathlib.Core.List.{List}
 use native.Mathlib.Omega.{arith}
-use borrow.Author.Tests.{le-leb, leb-true}
-use lib.Dec.{leb}
+use borrow.Author.Tests.{le-leb}
 use lib.ListN.{length, getD, replicate}
 use Rattle.words.specs.Choice.{pick}
-use Rattle.words.specs.Table.{table, spread}
-use Rattle.words.specs.Words.{wordOf, wordAt, wordOr0, bytesOfAll, putWord}
-use Rattle.words.proofs.Choice.{both}
+use Rattle.words.specs.Table.{table}
+use Rattle.words.specs.Words.{wordAt, wordOr0}
 use Rattle.words.proofs.Table.{table-same, getD-table}
-use Rattle.image.specs.Header.{count, offset, slotAt}
+use Rattle.image.specs.Header.{count, slotAt}
 use Rattle.image.specs.Slot.{slotOf, isSet, rootKey}
 use Rattle.checks.specs.Layout.{field}
 use Rattle.checks.proofs.Fields.{field-word}
-use Rattle.checks.specs.declared.Kind.{Kind}
-use Rattle.checks.specs.declared.Kind.the-variants.{RootKeyAndCounter, RootKey, CounterOnly, Nothing, SessionKey, Increment, Request}
-use Rattle.plan.specs.declared.Store.{Store}
-use Rattle.plan.specs.Stores.{keyStores, stores}
-use Rattle.steps.specs.Step.{stored}
-use Rattle.rules.specs.Whole.{allStored}
 use Rattle.promises.specs.Compared.{Counter, counterIn}
-use Rattle.promises.proofs.Slots.{SameHeader, Laid, same-laid, place, slotBytes, header-stored, slot-stored, slot-other}
+use Rattle.promises.proofs.Slots.{Laid, place, slotBytes}
 
 -- read from a slot's bytes
 unfoldable pub readCounter : List ℕ → Counter

@@ -12,7 +12,6 @@ use Rattle.checks.specs.declared.Command.the-variants.{WriteRootKey, UpdateSess
 use Rattle.state.specs.declared.State.{State}
 use Rattle.state.specs.Parts.{posted}
 use Rattle.state.specs.Refusal.{isRunning}
-use Rattle.signing.specs.Signing.{keyOf}
 use Rattle.signing.specs.Hashed.{blockDone, withBlock, hashed}
 use Rattle.steps.specs.Ending.{withKey, withReply, withStep, isLast, finishedBy, advanced}
 use Rattle.steps.specs.Deciding.{keptAfter, withKept, verdictOf, decided, hashStep}

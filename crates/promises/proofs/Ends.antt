@@ -1,12 +1,8 @@
 -- It ends: after 15 steps no job runs, and a device in which none runs stays as it is. Assumes nothing.
-use Prim.Native.Nat.{ℕ, zero, suc, _+_, _≤_, _<_}
+use Prim.Native.Nat.{ℕ, zero, suc, _+_, _≤_}
 use mathlib.Core.Path.{_≡_, refl, ap, sym, _∙_}
-use mathlib.Core.Logic.{⊎-elim}
 use mathlib.Core.Bool.{Bool, true, false}
-use native.Mathlib.Numerals.{add-one}
 use native.Mathlib.Omega.{arith}
-use borrow.Author.Tests.{ltb-true, ltb-false}
-use lib.Dec.{leb}
 use Rattle.words.specs.Choice.{pick}
 use Rattle.words.proofs.Choice.{never, either}
 use Rattle.state.specs.Refusal.{isRunning}

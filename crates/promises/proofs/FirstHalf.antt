@@ -1,12 +1,11 @@
 -- Demand 3, first half: whatever the order of calls, once idle the device is as if the frames that found it idle had run whole.
 -- Assumes nothing.
-use Prim.Native.Nat.{ℕ, _<_}
+use Prim.Native.Nat.{ℕ}
 use mathlib.Core.Path.{_≡_, refl, ap, sym, subst, _∙_}
 use mathlib.Core.Logic.{⊎-elim, inl}
 use mathlib.Core.Bool.{Bool, true, false}
 use mathlib.Core.List.{List, [], _∷_}
 use borrow.Author.Tests.{lt-ltb}
-use lib.Dec.{ltb}
 use Rattle.words.specs.Choice.{pick}
 use Rattle.words.proofs.Choice.{never, either}
 use Rattle.image.specs.Header.{count}
@@ -15,9 +14,8 @@ use Rattle.frames.specs.declared.Class.{Class}
 use Rattle.frames.specs.declared.Class.the-variants.{Empty, EnableReset, Reset, Read, Command, Unnamed}
 use Rattle.frames.specs.Classes.{classOf}
 use Rattle.checks.specs.Layout.{counterOf}
-use Rattle.checks.specs.Jobs.{lengthOf}
 use Rattle.state.specs.Parts.{powerOn}
-use Rattle.state.specs.Refusal.{isRunning, jobRefusal, deviceRefusal}
+use Rattle.state.specs.Refusal.{jobRefusal, deviceRefusal}
 use Rattle.arrival.specs.Arrival.{arrived}
 use Rattle.device.specs.Frame.{withEnabled, stateAfter}
 use Rattle.device.specs.Work.{Device, run, stepsDone}
@@ -28,9 +26,8 @@ use Rattle.promises.specs.Compared.{Alike}
 use Rattle.promises.specs.Orders.{Call, PowerUp, Frame, Work, called, numberOf, allCalled}
 use Rattle.promises.specs.Account.{Account, isBusy, goneBy, worked, cut, framed, accounted, account, begun}
 use Rattle.promises.proofs.Slots.{same-header}
-use Rattle.promises.proofs.Taken.{below-count}
 use Rattle.promises.proofs.Progress.{no-job-idle, runs}
-use Rattle.promises.proofs.Sound.{Resting, started, Working, Sound}
+use Rattle.promises.proofs.Sound.{Resting, Working, Sound}
 use Rattle.promises.proofs.Interrupted.{below-now}
 use Rattle.promises.proofs.Calls.{formed-on, accepted-now, enabled-only, cut-off, taken-by, worked-by}
 

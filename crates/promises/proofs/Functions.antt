@@ -2,15 +2,14 @@
 -- the image that the one before it left. Of a function only its contract is used, as the prover reads it from the source. Assumes
 -- nothing.
 use Prim.Native.Nat.{ℕ}
-use mathlib.Core.Path.{_≡_, refl, ap, sym, subst, _∙_}
+use mathlib.Core.Path.{_≡_, ap, sym, subst, _∙_}
 use mathlib.Core.Bool.{false}
 use mathlib.Core.List.{List, [], _∷_}
 use denote.Ref.{now}
 use Rattle.image.specs.Refusal.{refusal}
-use Rattle.state.specs.Parts.{powerOn}
 use Rattle.device.specs.declared.Answer.{Answer}
 use Rattle.device.specs.Work.{Device}
-use Rattle.device.specs.Calls.{device, poweredUp, afterFrame, afterWork, imageAfterWork}
+use Rattle.device.specs.Calls.{device, poweredUp, imageAfterWork}
 use Rattle.device.proofs.power_up.Reads as power-up-reads
 use Rattle.device.proofs.frame.Reads as frame-reads
 use Rattle.device.proofs.work.Reads as work-reads

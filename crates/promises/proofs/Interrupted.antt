@@ -8,28 +8,28 @@ use mathlib.Core.List.{List, [], _∷_}
 use native.Mathlib.Omega.{arith}
 use borrow.Author.Tests.{eqb-true, eqb-false}
 use lib.Dec.{leb, eqb}
-use lib.ListN.{length, getD, take}
+use lib.ListN.{getD, take}
 use Rattle.words.specs.Choice.{pick}
 use Rattle.words.specs.Table.{table}
 use Rattle.words.proofs.Choice.{both}
 use Rattle.image.specs.Header.{count, slotAt}
 use Rattle.image.specs.Slot.{slotOf, isSet}
 use Rattle.checks.specs.Layout.{counterOf}
-use Rattle.checks.specs.Jobs.{lengthOf, commandOf, hashSteps}
+use Rattle.checks.specs.Jobs.{commandOf, hashSteps}
 use Rattle.checks.specs.declared.Kind.{Kind}
 use Rattle.checks.specs.declared.Kind.the-variants.{RootKeyAndCounter, RootKey, CounterOnly, Nothing, SessionKey, Increment, Request}
 use Rattle.plan.specs.declared.Store.{Store}
 use Rattle.plan.specs.Stores.{stores}
 use Rattle.arrival.specs.Arrival.{frameKept}
-use Rattle.rules.specs.Whole.{Outcome, kindIn, allStored}
+use Rattle.rules.specs.Whole.{Outcome, kindIn}
 use Rattle.promises.specs.Compared.{Counter, counterIn}
-use Rattle.promises.specs.Account.{Account, isBusy, hasSet, setTo0, interrupted}
-use Rattle.promises.proofs.Slots.{SameHeader, same-header, then-header, back-header, Laid, same-laid, slotBytes}
+use Rattle.promises.specs.Account.{Account, hasSet, setTo0, interrupted}
+use Rattle.promises.proofs.Slots.{SameHeader, then-header, back-header, Laid, same-laid, slotBytes}
 use Rattle.promises.proofs.Counters.{readCounter, root-in, counter-in, counter-read}
 use Rattle.promises.proofs.Storing.{allInside, putAll, Stored, all-stored, inside-slot}
 use Rattle.promises.proofs.Taken.{Facts, below-count, facts}
 use Rattle.promises.proofs.WholeOwn.{made, own-after, other-after}
-use Rattle.promises.proofs.Progress.{At, plan-length}
+use Rattle.promises.proofs.Progress.{plan-length}
 use Rattle.promises.proofs.Cuts.{zeroed, Known, Cut, cut-off}
 use Rattle.promises.proofs.Sound.{Working}
 

@@ -23,7 +23,7 @@ use Rattle.promises.specs.Orders.{Call, PowerUp, Frame, Work, called, st
 use Rattle.promises.specs.Account.{Account, isBusy, accounted, account, begun}
 use Rattle.promises.proofs.Progress.{runs, progress}
 use Rattle.promises.proofs.Ends.{work-ends}
-use Rattle.promises.proofs.Sound.{Resting, Working, Sound}
+use Rattle.promises.proofs.Sound.{Sound}
 use Rattle.promises.proofs.FirstHalf.{not-refused, frame-done, work-done, next, all-sound, start-sound, same-device}
 
 -- a job that is there runs

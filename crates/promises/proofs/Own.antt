@@ -2,31 +2,26 @@
 use Prim.Native.Nat.{ℕ, _<_}
 use mathlib.Core.Path.{_≡_, refl, ap, sym, _∙_}
 use mathlib.Core.Bool.{Bool, true, false}
-use mathlib.Core.List.{List, _++_}
-use native.Mathlib.Omega.{arith}
-use borrow.Author.Tests.{ltb-true, eqb-true, eqb-false}
+use mathlib.Core.List.{List}
+use borrow.Author.Tests.{ltb-true, eqb-true}
 use lib.Dec.{ltb, eqb}
-use lib.ListN.{length, getD}
 use Rattle.words.specs.Choice.{pick}
-use Rattle.words.specs.Table.{table}
 use Rattle.words.proofs.Choice.{never}
-use Rattle.hmac.specs.Hmac.{HMAC}
-use Rattle.image.specs.Header.{count, slotAt}
-use Rattle.image.specs.declared.Slot.{Slot}
+use Rattle.image.specs.Header.{count}
 use Rattle.image.specs.Slot.{slotOf, isSet, isBad, rootKey}
-use Rattle.checks.specs.Layout.{typeOf, counterOf, field}
-use Rattle.checks.specs.Checks.{shapeStatus, counterStatus, stateStatus, slotStatus, orElse, arrivalStatus}
-use Rattle.checks.specs.Jobs.{commandOf, rootKind, kindOf}
+use Rattle.checks.specs.Layout.{typeOf, counterOf}
+use Rattle.checks.specs.Checks.{shapeStatus, counterStatus, slotStatus, orElse, arrivalStatus}
+use Rattle.checks.specs.Jobs.{commandOf}
 use Rattle.checks.specs.declared.Kind.{Kind}
 use Rattle.checks.specs.declared.Kind.the-variants.{RootKeyAndCounter, RootKey, CounterOnly, Nothing, SessionKey, Increment, Request}
 use Rattle.verdict.specs.Verdict.{verdict}
 use Rattle.state.specs.declared.Key.{Key}
 use Rattle.state.specs.Parts.{sessionKey}
-use Rattle.arrival.specs.Arrival.{frameKept, isTemporary, statusOnArrival}
+use Rattle.arrival.specs.Arrival.{statusOnArrival}
 use Rattle.device.specs.Work.{Device}
-use Rattle.rules.specs.Whole.{kindIn, valueIn, keyThere, newKey, signature, lastChecks, allChecks}
+use Rattle.rules.specs.Whole.{kindIn, keyThere, newKey, lastChecks, allChecks}
 use Rattle.promises.specs.Compared.{Counter, counterIn}
-use Rattle.promises.proofs.Slots.{SameHeader, Laid}
+use Rattle.promises.proofs.Slots.{SameHeader}
 use Rattle.promises.proofs.Taken.{Facts, below-count, facts}
 
 -- two devices that are the same to a frame: the header, its counter as it is compared, and its session key

@@ -1,7 +1,6 @@
 -- Demand 3, second half, of the device: frames that ran whole, in two orders that keep a counter's own. Assumes nothing.
 use Prim.Native.Nat.{ℕ, _<_}
 use mathlib.Core.Path.{_≡_, refl, ap, sym, subst, _∙_}
-use mathlib.Core.Logic.{⊎-elim}
 use mathlib.Core.Bool.{Bool, true, false}
 use mathlib.Core.List.{List, [], _∷_}
 use native.Mathlib.Omega.{arith}
@@ -15,9 +14,9 @@ use Rattle.frames.specs.Classes.{classOf}
 use Rattle.state.specs.declared.Key.{Key}
 use Rattle.state.specs.Parts.{noKey}
 use Rattle.device.specs.Work.{Device}
-use Rattle.rules.specs.Whole.{Outcome, outcome, whole}
-use Rattle.promises.specs.Compared.{counterIn, Alike}
-use Rattle.promises.specs.Orders.{Call, Frame, Work, called}
+use Rattle.rules.specs.Whole.{Outcome, whole}
+use Rattle.promises.specs.Compared.{counterIn}
+use Rattle.promises.specs.Orders.{Frame, Work, called}
 use Rattle.promises.specs.Account.{Account, isBusy, idle, goneBy, worked, framed, accounted, account}
 use Rattle.promises.specs.Reordering.{ownFrames, allWhole, eachRun, Commands}
 use Rattle.promises.proofs.Sound.{Resting, Sound}

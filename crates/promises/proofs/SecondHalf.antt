@@ -6,7 +6,7 @@ use mathlib.Core.Logic.{_⊎_, inl, inr, ⊎-elim}
 use mathlib.Core.Bool.{Bool, true, false}
 use mathlib.Core.List.{List, [], _∷_}
 use native.Mathlib.Omega.{arith}
-use borrow.Author.Tests.{ltb-true, ltb-false, eqb-true, eqb-false, le-ltb, ne-eqb}
+use borrow.Author.Tests.{ltb-false, eqb-true, eqb-false, ne-eqb}
 use lib.Dec.{ltb, eqb}
 use lib.ListN.{length, getD}
 use Rattle.words.specs.Choice.{pick}
@@ -23,7 +23,7 @@ use Rattle.promises.specs.Account.{idle}
 use Rattle.promises.specs.Reordering.{belongs, ownFrames, allWhole, ownStatuses}
 use Rattle.promises.proofs.Slots.{SameHeader, same-header, then-header, back-header}
 use Rattle.promises.proofs.Own.{SameTo}
-use Rattle.promises.proofs.WholeOwn.{Formed, Kept, whole-kept, SameBy, whole-same}
+use Rattle.promises.proofs.WholeOwn.{Formed, Kept, whole-kept, whole-same}
 use Rattle.promises.proofs.Alikes.{whole-formed}
 
 -- no frame has two bytes or fewer

@@ -1,17 +1,16 @@
 -- A slot as its 48 bytes: what a store changes of it, of the other slots and of the header. Assumes nothing.
 use Prim.Native.Nat.{ℕ, _+_, _*_, _/_, _%_, _≤_, _<_}
-use mathlib.Core.Path.{_≡_, refl, ap, sym, _∙_}
+use mathlib.Core.Path.{_≡_, refl, sym, _∙_}
 use mathlib.Core.Logic.{⊎-elim, _⊎_, inl, inr}
 use mathlib.Core.Bool.{Bool, true, false}
-use mathlib.Core.List.{List, [], _∷_}
+use mathlib.Core.List.{List}
 use native.Mathlib.Omega.{arith}
 use borrow.Author.Tests.{le-leb, ltb-true, ltb-false, eqb-true, eqb-false}
-use lib.Dec.{leb, ltb, eqb}
+use lib.Dec.{ltb, eqb}
 use lib.ListN.{length, getD, set, length-set}
 use lib.Seq.{ext-getD, getD-set-same, getD-set-other}
 use Rattle.words.specs.Choice.{pick}
-use Rattle.words.specs.Table.{table}
-use Rattle.words.specs.Words.{wordOr0, withWord, putWord}
+use Rattle.words.specs.Words.{wordOr0, putWord}
 use Rattle.words.proofs.Table.{length-table, table-same, getD-table}
 use Rattle.image.specs.Header.{count, offset, slotSize, total, slotAt}
 use Rattle.checks.specs.Layout.{field}

@@ -1,11 +1,11 @@
 -- What holds along an order of calls: the device rests and is as if, or a job works on what its frame found. Assumes nothing.
-use Prim.Native.Nat.{ℕ, zero, suc, _+_, _*_, _%_, _-_, _≤_, _<_}
-use mathlib.Core.Path.{_≡_, refl, ap, sym, _∙_}
+use Prim.Native.Nat.{ℕ, _+_, _*_, _%_, _-_, _<_}
+use mathlib.Core.Path.{_≡_, refl}
 use mathlib.Core.Logic.{_⊎_}
 use mathlib.Core.Bool.{Bool, true, false}
 use mathlib.Core.List.{List}
 use native.Mathlib.Omega.{arith}
-use borrow.Author.Tests.{ltb-false, eqb-true, lt-ltb}
+use borrow.Author.Tests.{ltb-false, eqb-true}
 use lib.Dec.{ltb, eqb}
 use lib.ListN.{length}
 use Rattle.words.specs.Choice.{pick}
@@ -13,7 +13,6 @@ use Rattle.image.specs.Header.{count, offset, slotSize, total}
 use Rattle.image.specs.Refusal.{layoutRefusal, headerRefusal, refusal}
 use Rattle.checks.specs.Layout.{counterOf}
 use Rattle.checks.specs.Jobs.{lengthOf}
-use Rattle.state.specs.Refusal.{isRunning, jobRefusal, deviceRefusal}
 use Rattle.arrival.specs.Arrival.{frameKept, statusOnArrival, arrived}
 use Rattle.device.specs.Work.{Device, run}
 use Rattle.device.specs.Calls.{device}
@@ -21,7 +20,6 @@ use Rattle.rules.specs.Whole.{outcome, kindIn}
 use Rattle.promises.specs.Compared.{Alike}
 use Rattle.promises.specs.Account.{Account}
 use Rattle.promises.proofs.Slots.{SameHeader, Laid}
-use Rattle.promises.proofs.Taken.{below-count}
 use Rattle.promises.proofs.WholeOwn.{Formed}
 use Rattle.promises.proofs.Progress.{At}
 use Rattle.promises.proofs.Enabled.{enabledAs}

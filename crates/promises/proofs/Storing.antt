@@ -1,15 +1,13 @@
 -- Several stores in a counter's slot: what they make of it, and that they leave the others and the header. Assumes nothing.
-use Prim.Native.Nat.{ℕ, _+_, _*_, _/_, _%_, _≤_, _<_}
-use mathlib.Core.Path.{_≡_, refl, ap, sym, _∙_}
+use Prim.Native.Nat.{ℕ, _+_, _*_, _/_, _%_, _<_}
+use mathlib.Core.Path.{_≡_, refl, ap, _∙_}
 use mathlib.Core.Bool.{Bool, true, false}
 use mathlib.Core.List.{List, [], _∷_}
-use native.Mathlib.Omega.{arith}
 use borrow.Author.Tests.{leb-true}
 use lib.Dec.{leb}
-use lib.ListN.{length, getD, replicate}
 use Rattle.words.specs.Choice.{pick}
 use Rattle.words.specs.Table.{table, spread}
-use Rattle.words.specs.Words.{wordOf, wordOr0, bytesOf, bytesOfAll, putWord}
+use Rattle.words.specs.Words.{wordOf, wordOr0, bytesOfAll, putWord}
 use Rattle.words.proofs.Choice.{both}
 use Rattle.image.specs.Header.{count}
 use Rattle.image.specs.Slot.{isSet}
@@ -19,7 +17,7 @@ use Rattle.plan.specs.declared.Store.{Store}
 use Rattle.plan.specs.Stores.{keyStores, stores}
 use Rattle.steps.specs.Step.{stored}
 use Rattle.rules.specs.Whole.{allStored}
-use Rattle.promises.specs.Compared.{Counter, counterIn}
+use Rattle.promises.specs.Compared.{Counter}
 use Rattle.promises.proofs.Slots.{SameHeader, same-header, then-header, Laid, same-laid, slotBytes, header-stored, slot-stored, slot-other}
 use Rattle.promises.proofs.Counters.{readCounter}
 

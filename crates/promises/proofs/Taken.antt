@@ -1,6 +1,6 @@
 -- What a frame that no check fails has met, and the two ends that a frame comes to. Assumes nothing.
 use Prim.Native.Nat.{ℕ, _<_}
-use mathlib.Core.Path.{_≡_, refl, ap, sym, _∙_}
+use mathlib.Core.Path.{_≡_, refl, sym, _∙_}
 use mathlib.Core.Bool.{Bool, true, false}
 use mathlib.Core.List.{List}
 use native.Mathlib.Omega.{arith}
@@ -19,7 +19,7 @@ use Rattle.checks.specs.declared.Kind.the-variants.{RootKeyAndCounter, RootKey,
 use Rattle.state.specs.Parts.{sessionKey}
 use Rattle.arrival.specs.Arrival.{frameKept, isTemporary, statusOnArrival}
 use Rattle.device.specs.Work.{Device}
-use Rattle.rules.specs.Whole.{Outcome, kindIn, lastChecks, allChecks, refusedWith, carriedOut, whole}
+use Rattle.rules.specs.Whole.{Outcome, kindIn, allChecks, refusedWith, carriedOut, whole}
 
 -- both checks, where neither fails
 or-zero-by : (a b : ℕ) (t : Bool) → eqb a 0 ≡ t → pick t b a ≡ 0 → (a ≡ 0) × (b ≡ 0)

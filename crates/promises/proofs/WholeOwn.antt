@@ -11,7 +11,6 @@ use lib.Seq.{getD-set-same, getD-set-other}
 use Rattle.words.specs.Choice.{pick}
 use Rattle.image.specs.Header.{count, slotAt}
 use Rattle.image.specs.Slot.{slotOf}
-use Rattle.frames.specs.declared.Reply.{Reply}
 use Rattle.checks.specs.Layout.{counterOf}
 use Rattle.checks.specs.Jobs.{commandOf}
 use Rattle.checks.specs.declared.Kind.{Kind}
@@ -22,8 +21,8 @@ use Rattle.state.specs.Parts.{noKey}
 use Rattle.steps.specs.Deciding.{keptAfter}
 use Rattle.arrival.specs.Arrival.{frameKept, statusOnArrival}
 use Rattle.device.specs.Work.{Device}
-use Rattle.rules.specs.Whole.{Outcome, kindIn, valueIn, newKey, allChecks, refusedWith, keysAfter, replyAfter, allStored, imageAfter, carriedOut, whole}
-use Rattle.promises.specs.Compared.{Counter, counterIn}
+use Rattle.rules.specs.Whole.{Outcome, kindIn, valueIn, allChecks, refusedWith, keysAfter, replyAfter, allStored, imageAfter, carriedOut, whole}
+use Rattle.promises.specs.Compared.{counterIn}
 use Rattle.promises.proofs.Slots.{SameHeader, same-header, Laid, same-laid}
 use Rattle.promises.proofs.Counters.{readCounter, counter-read}
 use Rattle.promises.proofs.Storing.{Stored, all-stored, inside-slot, counterAfter, after-stores}

@@ -2,7 +2,7 @@
 -- seen then. "Good" means the signature verifies. Assumes nothing.
 use Prim.Native.Nat.{ℕ, _<_}
 use mathlib.Core.Path.{_≡_}
-use mathlib.Core.Bool.{Bool, true, false}
+use mathlib.Core.Bool.{true, false}
 use mathlib.Core.List.{List, [], _∷_}
 use lib.ListN.{length, getD}
 use Rattle.words.specs.Words.{wordOr0}
@@ -17,7 +17,7 @@ use Rattle.verdict.specs.Signature.{signatureHolds}
 use Rattle.state.specs.Parts.{noKey, sessionKey}
 use Rattle.arrival.specs.Arrival.{frameKept, isTemporary}
 use Rattle.device.specs.Work.{Device}
-use Rattle.rules.specs.Whole.{signature, valueIn}
+use Rattle.rules.specs.Whole.{signature}
 use Rattle.promises.specs.Orders.{Call, PowerUp, Frame, Work}
 use Rattle.promises.specs.Account.{isBusy}
 
