@@ -24,3 +24,4 @@ pub mod ExamplesArrival
 pub mod ExamplesJobs
 pub mod ExamplesCuts
 pub mod Examples
+pub mod Promises

@@ -1,0 +1,113 @@
+-- The promises, all of them in one place, each under document 01's words or those of its three demands. Their proofs are in the files
+-- beside this one. Assumes nothing.
+use Prim.Native.Nat.{ℕ, _+_, _≤_, _<_}
+use mathlib.Core.Path.{_≡_}
+use mathlib.Core.Bool.{true, false}
+use mathlib.Core.List.{List, _∷_}
+use lib.ListN.{length, getD}
+use Rattle.image.specs.Header.{count}
+use Rattle.image.specs.Refusal.{refusal}
+use Rattle.state.specs.Parts.{noKey, powerOn}
+use Rattle.state.specs.Refusal.{isRunning}
+use Rattle.device.specs.Work.{Device, run}
+use Rattle.device.specs.Calls.{device, outputAfterFrame, afterWork}
+use Rattle.rules.specs.Whole.{Outcome, outcome, refusedWith, whole}
+use Rattle.promises.specs.Compared.{counterIn, Alike}
+use Rattle.promises.specs.Orders.{Call, PowerUp, Frame, Work, called, numberOf, stepsOf, allCalled}
+use Rattle.promises.specs.Account.{isBusy, account, begun}
+use Rattle.promises.specs.Reordering.{ownFrames, allWhole, ownStatuses, eachRun, Commands}
+use Rattle.promises.specs.Examples.{Example, Ready, Given, script, Seen}
+use Rattle.promises.proofs.WholeOwn.{Formed}
+use Rattle.promises.proofs.Ends.{ends}
+use Rattle.promises.proofs.FirstHalf.{all-sound, start-sound, first-half, none-refused}
+use Rattle.promises.proofs.SecondHalf.{short-refused, same-counter, same-session, same-statuses}
+use Rattle.promises.proofs.Reordered.{reordered-counter, reordered-session}
+use Rattle.promises.proofs.ItEnds.{idle-after-15, steps-counted, fewer-than-15}
+use Rattle.promises.proofs.Refused.{power-up-keeps, frame-refused, work-refused}
+use Rattle.promises.proofs.Functions.{Ran, functions-first-half}
+use Rattle.promises.proofs.Examples.{examples}
+
+-- "Whatever the order of frames, steps, resets and power cuts, once idle the device is as if the frames that found it idle had run
+-- whole." Powered up on an accepted image; what would be is `account`, what is compared is `Alike`.
+pub as-if-whole :
+    (image : List ℕ) → refusal image ≡ 0 → (calls : List Call) → isBusy (account calls (begun image) .device) ≡ false →
+    Alike (outcome (account calls (begun image) .device)) (account calls (begun image) .asIf)
+as-if-whole = first-half
+
+-- The same of a run made of calls of the functions power_up, frame and work, of which only the contracts are used. "Each call is
+-- handed the state and the image that the one before it left."
+pub functions-as-if-whole :
+    (calls : List Call) (d e : Device) → refusal (d .image) ≡ 0 → Ran (PowerUp ∷ calls) d e → isBusy e ≡ false →
+    Alike (outcome e) (account calls (begun (d .image)) .asIf)
+functions-as-if-whole = functions-first-half
+
+-- "Frames on different counters commute." Of frames that run whole, in two orders in which a counter has the same frames in the same
+-- order: no counter, no key and no frame's own final status changes. "A two-byte one belongs to no counter", and ends with 04h.
+pub counters-commute :
+    (c : ℕ) (fs gs : List (List ℕ)) (o : Outcome) → Formed (o .image) (o .keys) → ownFrames c fs ≡ ownFrames c gs →
+    (c < count (o .image) → counterIn (allWhole fs o .image) c ≡ counterIn (allWhole gs o .image) c)
+    × (getD (allWhole fs o .keys) c noKey ≡ getD (allWhole gs o .keys) c noKey) × (ownStatuses c fs o ≡ ownStatuses c gs o)
+counters-commute c fs gs o formed order =
+    (same-counter c fs gs o formed order, same-session c fs gs o formed order, same-statuses c fs gs o formed order)
+
+pub two-bytes-fail : (d : Device) (frame : List ℕ) → length frame ≤ 2 → whole d frame ≡ refusedWith 0x04 d
+two-bytes-fail = short-refused
+
+-- The same of the device, after any calls that leave it idle: each command frame is sent and gets its 15 steps.
+pub device-commutes :
+    (image : List ℕ) (accepted : refusal image ≡ 0) (calls : List Call) (quiet : isBusy (account calls (begun image) .device) ≡ false)
+    (fs gs : List (List ℕ)) → Commands fs → Commands gs → (c : ℕ) → ownFrames c fs ≡ ownFrames c gs →
+    c < count (account calls (begun image) .asIf .image) →
+    (counterIn (account (eachRun fs) (account calls (begun image)) .device .image) c ≡
+    counterIn (account (eachRun gs) (account calls (begun image)) .device .image) c)
+    × (getD (account (eachRun fs) (account calls (begun image)) .device .state .keys) c noKey ≡
+    getD (account (eachRun gs) (account calls (begun image)) .device .state .keys) c noKey)
+device-commutes image accepted calls quiet fs gs commands-f commands-g c order below =
+    let a = account calls (begun image) in
+    let sound = all-sound calls (begun image) (start-sound image accepted) in (
+      reordered-counter a sound quiet fs gs commands-f commands-g c order below,
+      reordered-session a sound quiet fs gs commands-f commands-g c order,
+    )
+
+-- "So busy clears after at most 15 steps": of any device, and of a work call after any calls; a job that is there is older by the
+-- steps that each call reports.
+pub fifteen-are-enough : (d : Device) → isRunning (run 15 d .state) ≡ false
+fifteen-are-enough = ends
+
+pub it-ends :
+    (image : List ℕ) → refusal image ≡ 0 → (calls : List Call) (quota : ℕ) → 15 ≤ quota →
+    isBusy (called (Work quota) (account calls (begun image) .device)) ≡ false
+it-ends = idle-after-15
+
+pub every-step-counts :
+    (image : List ℕ) → refusal image ≡ 0 → (calls : List Call) (call : Call) → isBusy (account calls (begun image) .device) ≡ true →
+    isBusy (called call (account calls (begun image) .device)) ≡ true →
+    called call (account calls (begun image) .device) .state .job .step ≡
+    stepsOf call (account calls (begun image) .device) + account calls (begun image) .device .state .job .step
+every-step-counts = steps-counted
+
+pub no-fifteenth :
+    (image : List ℕ) → refusal image ≡ 0 → (calls : List Call) → isBusy (account calls (begun image) .device) ≡ true →
+    account calls (begun image) .device .state .job .step < 15
+no-fifteenth = fewer-than-15
+
+-- "Refused calls change no lent byte, return the state handed in and report 0 steps; a refused power-up returns the power-on state."
+pub refused-frame :
+    (d : Device) (bytes output : List ℕ) → (numberOf (Frame bytes) d ≡ 0 → ⊥) →
+    (called (Frame bytes) d ≡ d) × (outputAfterFrame (d .image) (d .state) bytes output ≡ output)
+refused-frame = frame-refused
+
+pub refused-work : (d : Device) (quota : ℕ) → (numberOf (Work quota) d ≡ 0 → ⊥) → (called (Work quota) d ≡ d) × (afterWork d quota .steps ≡ 0)
+refused-work = work-refused
+
+pub any-power-up : (d : Device) → called PowerUp d ≡ device (d .image) powerOn
+any-power-up = power-up-keeps
+
+-- "A refused call is no part of the order": and in an order from an accepted image there is none.
+pub never-refused :
+    (image : List ℕ) → refusal image ≡ 0 → (calls : List Call) (call : Call) → numberOf call (account calls (begun image) .device) ≡ 0
+never-refused = none-refused
+
+-- "Cases marked P are proved about the specification, as a single table under one theorem."
+pub cases-marked-P : (p : Example) (d : Device) (frame : List ℕ) → Ready d → Given p d frame → Seen p d frame (allCalled (script p frame) d)
+cases-marked-P = examples
