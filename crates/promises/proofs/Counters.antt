@@ -13,7 +13,7 @@ use Rattle.image.specs.Header.{count, slotAt}
 use Rattle.image.specs.Slot.{slotOf, isSet, rootKey}
 use Rattle.checks.specs.Layout.{field}
 use Rattle.checks.proofs.Fields.{field-word}
-use Rattle.promises.specs.Compared.{Counter, counterIn}
+use Rattle.promises.specs.Compared.{Counter, valueShown, counterIn}
 use Rattle.promises.proofs.Slots.{Laid, place, slotBytes}
 
 -- read from a slot's bytes
@@ -22,7 +22,7 @@ readCounter b =
     record {
       root = wordAt b 0;
       counter = wordAt b 4;
-      value = pick (isSet (wordAt b 4)) (wordAt b 8) 0;
+      value = valueShown (wordAt b 4) (wordAt b 8);
       key = pick (isSet (wordAt b 0)) (field 16 32 b) (replicate 32 255);
     }
 

@@ -10,14 +10,13 @@ use Rattle.words.specs.Table.{table, spread}
 use Rattle.words.specs.Words.{wordOf, wordOr0, bytesOfAll, putWord}
 use Rattle.words.proofs.Choice.{both}
 use Rattle.image.specs.Header.{count}
-use Rattle.image.specs.Slot.{isSet}
 use Rattle.checks.specs.declared.Kind.{Kind}
 use Rattle.checks.specs.declared.Kind.the-variants.{RootKeyAndCounter, RootKey, CounterOnly, Nothing, SessionKey, Increment, Request}
 use Rattle.plan.specs.declared.Store.{Store}
 use Rattle.plan.specs.Stores.{keyStores, stores}
 use Rattle.steps.specs.Step.{stored}
 use Rattle.rules.specs.Whole.{allStored}
-use Rattle.promises.specs.Compared.{Counter}
+use Rattle.promises.specs.Compared.{Counter, valueShown}
 use Rattle.promises.proofs.Slots.{SameHeader, same-header, then-header, Laid, same-laid, slotBytes, header-stored, slot-stored, slot-other}
 use Rattle.promises.proofs.Counters.{readCounter}
 
@@ -80,7 +79,7 @@ counterAfter CounterOnly frame kept p = record { root = p .root; counter = 0; va
 counterAfter Nothing frame kept p = p
 counterAfter SessionKey frame kept p = p
 counterAfter Increment frame kept p =
-    record { root = p .root; counter = p .counter; value = pick (isSet (p .counter)) (readBack kept) 0; key = p .key }
+    record { root = p .root; counter = p .counter; value = valueShown (p .counter) (readBack kept); key = p .key }
 counterAfter Request frame kept p = p
 
 module _ (g : ℕ → ℕ) (frame : List ℕ) (kept : ℕ) where

@@ -15,12 +15,16 @@ pub record Counter : Type 0 where
   pub value : ℕ
   pub key : List ℕ
 
+-- the value while set
+abbrev pub valueShown : ℕ → ℕ → ℕ
+valueShown counter value = pick (isSet counter) value 0
+
 unfoldable pub counterIn : List ℕ → ℕ → Counter
 counterIn image c =
     record {
       root = slotOf image c .root;
       counter = slotOf image c .counter;
-      value = pick (isSet (slotOf image c .counter)) (slotOf image c .value) 0;
+      value = valueShown (slotOf image c .counter) (slotOf image c .value);
       key = rootKey image c;
     }
 
