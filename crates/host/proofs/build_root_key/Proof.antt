@@ -2,17 +2,12 @@
 use borrow.Author.Needs.{needs}
 use mathlib.Core.Path.{sym, _∙_}
 use native.Mathlib.Omega.{arith}
-use borrow.Author.Tests.{eq-eqb, ne-eqb}
-use Rattle.words.specs.Choice.{pick}
-use Rattle.host.proofs.Accepted.{accepted}
+use Rattle.host.proofs.Accepted.{accepted, left-as-found, filled-as-built}
 use Rattle.host.proofs.build_root_key.Statement.{statement}
 use Rattle.host.proofs.build_root_key.Tie as tie
 
 returns : tie.Need-returns
-unfolding pick
-returns c =
-    let n = c .before .build-refusal in
-    (n .ensures, rw (← n .ensures, ne-eqb (n .result) 0 (c .if1 .taken)))
+returns c = left-as-found _ _ _ _ (c .before .build-refusal .ensures) (c .if1 .taken)
 
 cast-put-root : tie.Need-cast-put-root
 cast-put-root c =
@@ -25,12 +20,9 @@ put-root-requires c κs =
     (was .1, was .3)
 
 returns-2 : tie.Need-returns-2
-unfolding pick
 returns-2 c =
-    let if1 = c .before .before .before .before .if1 in
     let n = c .before .before .before .before .before .build-refusal in
-    let zero = if1 .left in
-    (sym zero ∙ n .ensures, rw (← n .ensures, eq-eqb (n .result) 0 zero) (c .before .before .put-root .ensures))
+    filled-as-built _ _ _ _ _ (n .ensures) (c .before .before .before .before .if1 .left) (c .before .before .put-root .ensures)
 
 pub build-root-key-spec : {M : Type 1} → statement M
 build-root-key-spec =

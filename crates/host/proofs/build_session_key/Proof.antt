@@ -2,18 +2,13 @@
 use borrow.Author.Needs.{needs}
 use mathlib.Core.Path.{sym, _∙_}
 use native.Mathlib.Omega.{arith}
-use borrow.Author.Tests.{eq-eqb, ne-eqb}
-use Rattle.words.specs.Choice.{pick}
 use Rattle.host.specs.Frames.{sessionKey, sessionKeyFrame}
-use Rattle.host.proofs.Accepted.{accepted}
+use Rattle.host.proofs.Accepted.{accepted, left-as-found, filled-as-built}
 use Rattle.host.proofs.build_session_key.Statement.{statement}
 use Rattle.host.proofs.build_session_key.Tie as tie
 
 returns : tie.Need-returns
-unfolding pick
-returns c =
-    let n = c .before .build-refusal in
-    (n .ensures, rw (← n .ensures, ne-eqb (n .result) 0 (c .if1 .taken)))
+returns c = left-as-found _ _ _ _ (c .before .build-refusal .ensures) (c .if1 .taken)
 
 signature-requires : tie.Need-signature-requires
 signature-requires c κs =
@@ -34,15 +29,12 @@ put-signed-requires c κs =
     (omega arith, omega (arith, was .2), omega (arith, was .2, was .3))
 
 returns-2 : tie.Need-returns-2
-unfolding pick sessionKeyFrame sessionKey
+unfolding sessionKeyFrame sessionKey
 returns-2 c =
     let if1 = c .before .before .before .before .before .before .if1 in
     let signature = c .before .before .before .before .before .signature in
     let n = c .before .before .before .before .before .before .before .build-refusal in
-    let zero = if1 .left in (
-      sym zero ∙ n .ensures,
-      rw (← n .ensures, eq-eqb (n .result) 0 zero, ← signature .ensures) (c .before .before .put-signed .ensures),
-    )
+    filled-as-built _ _ _ _ _ (n .ensures) (if1 .left) (rw (← signature .ensures) (c .before .before .put-signed .ensures))
 
 pub build-session-key-spec : {M : Type 1} → statement M
 build-session-key-spec =

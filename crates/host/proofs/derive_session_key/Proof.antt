@@ -2,18 +2,13 @@
 use borrow.Author.Needs.{needs}
 use mathlib.Core.Path.{sym, _∙_}
 use native.Mathlib.Omega.{arith}
-use borrow.Author.Tests.{eq-eqb, ne-eqb}
-use Rattle.words.specs.Choice.{pick}
 use Rattle.host.specs.Frames.{sessionKey}
-use Rattle.host.proofs.Accepted.{accepted}
+use Rattle.host.proofs.Accepted.{accepted, left-as-found, filled-as-built}
 use Rattle.host.proofs.derive_session_key.Statement.{statement}
 use Rattle.host.proofs.derive_session_key.Tie as tie
 
 returns : tie.Need-returns
-unfolding pick
-returns c =
-    let n = c .before .build-refusal in
-    (n .ensures, rw (← n .ensures, ne-eqb (n .result) 0 (c .if1 .taken)))
+returns c = left-as-found _ _ _ _ (c .before .build-refusal .ensures) (c .if1 .taken)
 
 signature-requires : tie.Need-signature-requires
 signature-requires c κs =
@@ -21,11 +16,9 @@ signature-requires c κs =
     (was .1, omega (arith, was .2))
 
 returns-2 : tie.Need-returns-2
-unfolding pick sessionKey
+unfolding sessionKey
 returns-2 c =
-    let n = c .before .before .build-refusal in
-    let zero = c .before .if1 .left in
-    (sym zero ∙ n .ensures, rw (← n .ensures, eq-eqb (n .result) 0 zero) (c .signature .ensures))
+    filled-as-built _ _ _ _ _ (c .before .before .build-refusal .ensures) (c .before .if1 .left) (c .signature .ensures)
 
 pub derive-session-key-spec : {M : Type 1} → statement M
 derive-session-key-spec = tie.close (tie.spec (λ c κs. search needs) returns signature-requires returns-2)
