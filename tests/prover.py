@@ -41,20 +41,20 @@ def edit(path):
             line = next(line for line in text.splitlines() if words in line)
             raise Failed(f"the proof file does not fit the edited code: {line[:300]}")
     if "logic=not-proved" not in text:
-        raise Failed("the prover gave no verdict")
+        raise Failed("the prover came to no end")
 
 
 def axioms(crate):
     """The contracts that the proofs of a crate assume are the ones listed above, or none."""
     said = (ROOT / "target" / "log" / f"{crate}.out").read_text(errors="replace")
-    verdicts = [line for line in said.splitlines() if line.startswith("logic=proved ")]
-    if len(verdicts) != 1:
-        raise Failed(f"target/log/{crate}.out has {len(verdicts)} verdicts")
+    ends = [line for line in said.splitlines() if line.startswith("logic=proved ")]
+    if len(ends) != 1:
+        raise Failed(f"target/log/{crate}.out says {len(ends)} times that it is proved")
     found = [line for line in said.splitlines() if line.startswith("axioms ")]
-    counted = re.search(r" (axioms|foreign)=", verdicts[0]) is not None
+    counted = re.search(r" (axioms|foreign)=", ends[0]) is not None
     wanted = [ASSUMED[crate]] if crate in ASSUMED else []
     if found != wanted or counted != bool(wanted):
-        raise Failed(f"it assumes {found or verdicts[0]}")
+        raise Failed(f"it assumes {found or ends[0]}")
 
 
 def crates():
