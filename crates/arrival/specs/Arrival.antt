@@ -5,12 +5,13 @@ use mathlib.Core.List.{List}
 use lib.Dec.{eqb}
 use lib.ListN.{replicate}
 use Rattle.words.specs.Choice.{pick}
+use Rattle.words.specs.Table.{field}
 use Rattle.compare.specs.Compare.{sameBytes}
 use Rattle.image.specs.Header.{count}
 use Rattle.image.specs.Slot.{slotOf, rootKey}
-use Rattle.checks.specs.Layout.{typeOf, counterOf, field}
+use Rattle.checks.specs.Layout.{typeOf, counterOf}
 use Rattle.checks.specs.Checks.{arrivalStatus}
-use Rattle.checks.specs.Jobs.{kindOf}
+use Rattle.jobs.specs.Jobs.{kindOf}
 use Rattle.state.specs.declared.Job.{Job}
 use Rattle.state.specs.declared.State.{State}
 use Rattle.state.specs.Parts.{noReply, sessionKey}

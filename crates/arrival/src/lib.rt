@@ -2,7 +2,7 @@
 //
 // Contracts cite specs/, document 01's section "A taken OP1 frame".
 ghost use mathlib.Core.Path.{_≡_};
-ghost use Rattle.checks.specs.Layout.{field};
+ghost use Rattle.words.specs.Table.{field};
 ghost use Rattle.arrival.specs.Arrival.{isTemporary, statusOnArrival, jobOf, taken, arrived};
 use state::Job;
 use state::State;
@@ -12,11 +12,7 @@ fn frame_kept(frame: &[u8]) -> [u8; 64]
     ensures { λ r. ⌜ r ≡ field 0 64 (now (frame .entry)) ⌝ }
 {
     let mut kept = [0u8; 64];
-    let mut i = 0;
-    while i < 64 {
-        kept[i] = words::byte(frame, i);
-        i += 1;
-    }
+    words::copy(frame, 0, &mut kept);
     kept
 }
 
@@ -47,7 +43,7 @@ fn job_of(image: &[u8], frame: &[u8]) -> Job
     let kept = frame_kept(frame);
     let slot = image::slot_of(image, counter);
     let root = image::root_key(image, counter);
-    let kind = checks::kind_of(words::byte(frame, 1), is_temporary(kept), slot.counter);
+    let kind = jobs::kind_of(words::byte(frame, 1), is_temporary(kept), slot.counter);
     Job {
         there: true,
         kind,

@@ -1,3 +1,2 @@
--- What the proofs of others share, and that each public function has one answer only.
-pub mod Fields
+-- That each public function has one answer only.
 pub mod OneAnswer

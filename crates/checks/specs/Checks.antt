@@ -5,7 +5,7 @@ use mathlib.Core.Bool.{Bool}
 use mathlib.Core.List.{List}
 use lib.Dec.{ltb, eqb}
 use lib.ListN.{length}
-use Rattle.words.specs.Choice.{pick}
+use Rattle.words.specs.Choice.{pick, orElse}
 use Rattle.image.specs.declared.Slot.{Slot}
 use Rattle.image.specs.Slot.{isSet, isBad}
 use Rattle.checks.specs.Layout.{typeOf, counterOf, reservedOf, frameLength}
@@ -33,10 +33,6 @@ stateStatus type root counter hasKey =
 -- 5. bad slot: 20h, then 6 and 7
 unfoldable pub slotStatus : ℕ → Slot → Bool → ℕ
 slotStatus type slot hasKey = pick (isBad slot) 0x20 (stateStatus type (slot .root) (slot .counter) hasKey)
-
--- the status of a check, or where it is 0 that of the checks after it
-abbrev pub orElse : ℕ → ℕ → ℕ
-orElse status after = pick (eqb status 0) after status
 
 -- checks 1 to 7 of a frame, with the image's count, the counter's slot, and whether the counter has a session key
 unfoldable pub arrivalStatus : List ℕ → ℕ → Slot → Bool → ℕ

@@ -1,11 +1,10 @@
 -- Document 01, "A taken OP1 frame": the fields of a frame. Byte 1 is the type, byte 2 the counter, byte 3 reserved, and each type
 -- has its length. Assumes nothing.
-use Prim.Native.Nat.{ℕ, _+_}
+use Prim.Native.Nat.{ℕ}
 use mathlib.Core.List.{List}
 use lib.Dec.{eqb}
 use lib.ListN.{getD}
 use Rattle.words.specs.Choice.{pick}
-use Rattle.words.specs.Table.{table}
 
 abbrev pub typeOf : List ℕ → ℕ
 typeOf frame = getD frame 1 0
@@ -19,7 +18,3 @@ reservedOf frame = getD frame 3 0
 -- 00 root key 64, 01 session key 40, 02 increment 40, 03 request 48
 unfoldable pub frameLength : ℕ → ℕ
 frameLength type = pick (eqb type 0) 64 (pick (eqb type 3) 48 40)
-
--- a field of n bytes that starts at a place; zeros where the frame has no such bytes
-abbrev pub field : ℕ → ℕ → List ℕ → List ℕ
-field at n frame = table (λ i. getD frame (at + i) 0) n

@@ -1,25 +1,25 @@
 -- A frame that the host builds with the right keys passes the device's signature check, of each type and every counter.
 -- Assumes nothing.
-use Prim.Native.Nat.{ℕ, _+_}
+use Prim.Native.Nat.{ℕ}
 use mathlib.Core.Path.{_≡_, refl, _∙_}
 use mathlib.Core.List.{List, [], _++_}
 use native.Mathlib.Omega.{arith}
 use lib.ListN.{length}
 use Rattle.words.specs.Choice.{pick}
 use Rattle.words.proofs.Table.{length-table}
+use Rattle.words.specs.Table.{field}
+use Rattle.words.proofs.Fields.{field-between, field-behind}
 use Rattle.compare.proofs.Agree.{same-self}
 use Rattle.hmac.specs.Hmac.{HMAC}
-use Rattle.checks.specs.Layout.{field}
-use Rattle.checks.specs.declared.Command.{Command}
-use Rattle.checks.specs.declared.Command.the-variants.{WriteRootKey, UpdateSessionKey, IncrementCounter, RequestCounter}
+use Rattle.jobs.specs.declared.Command.{Command}
+use Rattle.jobs.specs.declared.Command.the-variants.{WriteRootKey, UpdateSessionKey, IncrementCounter, RequestCounter}
 use Rattle.image.specs.Slot.{rootKey}
-use Rattle.verdict.specs.Signature.{signatureHolds, signatureStatus}
+use Rattle.decision.specs.Signature.{signatureHolds, signatureStatus}
 use Rattle.arrival.specs.Arrival.{frameKept}
 use Rattle.device.specs.Work.{Device}
 use Rattle.rules.specs.Whole.{keyThere, signature}
 use Rattle.host.specs.Frames.{head, sessionKey, rootKeyFrame, sessionKeyFrame, incrementFrame, requestFrame}
-use Rattle.rules.proofs.Hashing.{length-HMAC}
-use Rattle.ends.proofs.Fields.{field-between, field-behind, kept-field, counter-sent, front-sent, data-sent, signature-sent}
+use Rattle.ends.proofs.Fields.{kept-field, counter-sent, front-sent, data-sent, signature-sent}
 
 -- check 8 of a frame that has this signature
 abbrev Passes : Command → Device → List ℕ → Type 0
@@ -42,41 +42,40 @@ root-key-passes d counter key size =
 
 -- type 01, built with the root key in use
 pub session-key-passes :
-    (d : Device) (counter : ℕ) (keyData : List ℕ) → length keyData ≡ 4 → length (rootKey (d .image) counter) ≡ 32 →
+    (d : Device) (counter : ℕ) (keyData : List ℕ) → length keyData ≡ 4 →
     Passes UpdateSessionKey d (sessionKeyFrame counter (rootKey (d .image) counter) keyData)
 unfolding signatureStatus signatureHolds sessionKeyFrame sessionKey pick
-session-key-passes d counter keyData size root =
+session-key-passes d counter keyData size =
     let key = HMAC (rootKey (d .image) counter) keyData in
-    let long : length key ≡ 32 = length-HMAC (rootKey (d .image) counter) keyData root (omega (arith, size)) in
     rw (
       counter-sent key 1 counter keyData 4 size (omega arith),
       data-sent key 1 counter keyData 4 size (omega arith),
       front-sent key 1 counter keyData 4 size (omega arith),
-      signature-sent key 1 counter keyData 4 size (omega arith) long,
+      signature-sent key 1 counter keyData 4 size (omega arith),
       same-self (HMAC key (head 1 counter ++ keyData)),
     )
 
 -- types 02 and 03, built with the counter's session key
 pub increment-passes :
-    (d : Device) (counter : ℕ) (key value : List ℕ) → length key ≡ 32 → length value ≡ 4 →
+    (d : Device) (counter : ℕ) (key value : List ℕ) → length value ≡ 4 →
     keyThere d (incrementFrame counter key value) ≡ key → Passes IncrementCounter d (incrementFrame counter key value)
 unfolding signatureStatus signatureHolds incrementFrame pick
-increment-passes d counter key value long size same =
+increment-passes d counter key value size same =
     rw (
       same,
       front-sent key 2 counter value 4 size (omega arith),
-      signature-sent key 2 counter value 4 size (omega arith) long,
+      signature-sent key 2 counter value 4 size (omega arith),
       same-self (HMAC key (head 2 counter ++ value)),
     )
 
 pub request-passes :
-    (d : Device) (counter : ℕ) (key tag : List ℕ) → length key ≡ 32 → length tag ≡ 12 →
+    (d : Device) (counter : ℕ) (key tag : List ℕ) → length tag ≡ 12 →
     keyThere d (requestFrame counter key tag) ≡ key → Passes RequestCounter d (requestFrame counter key tag)
 unfolding signatureStatus signatureHolds requestFrame pick
-request-passes d counter key tag long size same =
+request-passes d counter key tag size same =
     rw (
       same,
       front-sent key 3 counter tag 12 size (omega arith),
-      signature-sent key 3 counter tag 12 size (omega arith) long,
+      signature-sent key 3 counter tag 12 size (omega arith),
       same-self (HMAC key (head 3 counter ++ tag)),
     )

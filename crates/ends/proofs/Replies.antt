@@ -1,5 +1,5 @@
 -- The device's reply to a request that the host built is read as good, and hands back the device's counter value. Assumes nothing.
-use Prim.Native.Nat.{ℕ, suc, _+_, _-_, _≤_, _<_}
+use Prim.Native.Nat.{ℕ, suc, _+_, _≤_, _<_}
 use mathlib.Core.Path.{_≡_, refl, ap, sym, _∙_}
 use mathlib.Core.Bool.{true, false}
 use mathlib.Core.List.{List, [], _++_, append-assoc}
@@ -9,14 +9,15 @@ use lib.ListN.{length, getD, length-append}
 use Rattle.words.specs.Choice.{pick}
 use Rattle.words.specs.Words.{bytesOf}
 use Rattle.words.proofs.Table.{length-table, table-same, getD-table}
+use Rattle.words.specs.Table.{field}
+use Rattle.words.proofs.Fields.{field-part, field-between, field-behind}
 use Rattle.hmac.specs.Hmac.{HMAC}
+use Rattle.hmac.proofs.Lengths.{length-HMAC}
 use Rattle.frames.specs.declared.Reply.{Reply}
 use Rattle.frames.specs.Reading.{readByte, readOutput}
-use Rattle.checks.specs.Layout.{field}
-use Rattle.checks.proofs.Fields.{field-part}
-use Rattle.checks.specs.Jobs.{kindOf}
-use Rattle.checks.specs.declared.Kind.the-variants.{Request}
-use Rattle.verdict.specs.Verdict.{verdict}
+use Rattle.jobs.specs.Jobs.{kindOf}
+use Rattle.jobs.specs.declared.Kind.the-variants.{Request}
+use Rattle.decision.specs.Decision.{decision}
 use Rattle.arrival.specs.Arrival.{frameKept, statusOnArrival}
 use Rattle.device.specs.Work.{Device}
 use Rattle.rules.specs.Whole.{kindIn, valueIn, keyThere, lastChecks, allChecks, carriedOut, whole}
@@ -24,8 +25,7 @@ use Rattle.host.specs.Frames.{signedBy, requestFrame}
 use Rattle.host.specs.declared.Verdict.the-variants.{Good}
 use Rattle.host.specs.Reading.{readReply, partOf}
 use Rattle.host.proofs.Verdicts.{GoodReply, good-read}
-use Rattle.rules.proofs.Hashing.{length-HMAC}
-use Rattle.ends.proofs.Fields.{field-between, field-behind, data-sent}
+use Rattle.ends.proofs.Fields.{data-sent}
 use Rattle.ends.proofs.Passes.{request-passes}
 
 abbrev shown : List ℕ → Reply
@@ -71,7 +71,7 @@ module _ (key tag : List ℕ) (value : ℕ) (long : length key ≡ 32) (size : l
         same-tag = field-back 0 12 reply (omega arith) ∙ rw (append-assoc tag (bytesOf value) (HMAC key said)) (field-between 0 12 [] tag (bytesOf value ++ HMAC key said) refl size);
         signed =
             field-back 16 32 reply (omega arith)
-            ∙ field-behind 16 32 said (HMAC key said) long-said (length-HMAC key said long (omega (arith, long-said)))
+            ∙ field-behind 16 32 said (HMAC key said) long-said (length-HMAC key said)
             ∙ sym (ap (HMAC key) front);
       }
 
@@ -95,8 +95,8 @@ module _
   kind-asked = refl
 
   no-check-fails : allChecks d frame ≡ 0
-  unfolding allChecks lastChecks verdict pick
-  no-check-fails = rw (taken, kind-asked, request-passes d counter key tag long size same)
+  unfolding allChecks lastChecks decision pick
+  no-check-fails = rw (taken, kind-asked, request-passes d counter key tag size same)
 
   tag-kept : field 4 12 (frameKept frame) ≡ tag
   unfolding requestFrame

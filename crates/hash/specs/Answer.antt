@@ -16,5 +16,5 @@ abbrev pub refused : ℕ → Answer
 refused n = record { number = n; digest = replicate 32 0 }
 
 -- 11: message above 55 bytes
-unfoldable pub hashed : List ℕ → Answer
-hashed m = pick (ltb 55 (length m)) (refused 11) (done (sha256 m))
+unfoldable pub hashAnswer : List ℕ → Answer
+hashAnswer m = pick (ltb 55 (length m)) (refused 11) (done (sha256 m))

@@ -8,7 +8,7 @@ ghost use mathlib.Core.List.{_++_};
 ghost use lib.ListN.{length, take, replicate};
 ghost use Rattle.words.specs.Words.{wordsOf, bytesOfAll};
 ghost use Rattle.hash.specs.Padding.{lastBlock};
-ghost use Rattle.hash.specs.Answer.{done, refused, hashed};
+ghost use Rattle.hash.specs.Answer.{done, refused, hashAnswer};
 
 // An answer with a digest by value: number 0 if done; if refused the refusal's number, and a digest of zeros.
 pub struct Answer {
@@ -48,11 +48,7 @@ fn copied(message: &[u8]) -> [u8; 64]
     ensures { λ r. ⌜ r ≡ now (message .entry) ++ replicate (64 - length (now (message .entry))) 0 ⌝ }
 {
     let mut b = [0u8; 64];
-    let mut i = 0;
-    while i < message.len() {
-        b[i] = message[i];
-        i += 1;
-    }
+    words::place(message, 0, &mut b);
     b
 }
 
@@ -103,7 +99,7 @@ pub fn refused(number: u32) -> Answer
 
 // SHA-256 of a message. Refusal 11: it is above 55 bytes.
 pub fn hash(message: &[u8]) -> Answer
-    ensures { λ r. ⌜ r ≡ hashed (now (message .entry)) ⌝ }
+    ensures { λ r. ⌜ r ≡ hashAnswer (now (message .entry)) ⌝ }
 {
     if 55 < message.len() {
         return refused(11);

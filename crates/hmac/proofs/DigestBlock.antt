@@ -1,5 +1,5 @@
 -- The block of the inner digest, word by word. Assumes nothing.
-use mathlib.Core.Path.{_≡_, refl, _∙_}
+use mathlib.Core.Path.{_≡_, _∙_}
 use mathlib.Core.List.{List, [], _∷_, _++_, append-assoc}
 use Prim.Native.Nat.{ℕ}
 use native.Mathlib.Omega.{arith}
@@ -7,9 +7,10 @@ use lib.ListN.{length, length-append}
 use lib.Seq.{take-all}
 use Rattle.words.specs.Table.{spread}
 use Rattle.words.specs.Words.{bytesOf, bytesOfAll}
-use Rattle.words.proofs.Spread.{spread-append, length-spread}
+use Rattle.words.proofs.Spread.{spread-append}
 use Rattle.words.proofs.Back.{words-back}
 use Rattle.hash.specs.Padding.{lastBlock}
+use Rattle.hash.proofs.Lengths.{length-digest}
 use Rattle.hmac.specs.Quarters.{textBlock}
 
 -- what follows the 32 bytes of a digest: the mark, zeros, and the length of 96 bytes in bits
@@ -19,11 +20,10 @@ ending = 0x80000000 ∷ 0 ∷ 0 ∷ 0 ∷ 0 ∷ 0 ∷ 0 ∷ 768 ∷ []
 pub digest-words : (inner : List ℕ) → length inner ≡ 8 → textBlock (bytesOfAll inner) ≡ inner ++ ending
 unfolding lastBlock spread
 digest-words inner e =
-    let bytes : length (bytesOfAll inner) ≡ 32 = length-spread bytesOf 4 (λ w. refl) inner ∙ omega arith in
     let whole : length (inner ++ ending) ≡ 16 = length-append inner ending ∙ omega arith in
     rw (
-      take-all 55 (bytesOfAll inner) (omega arith),
-      bytes,
+      take-all 55 (bytesOfAll inner) (omega (arith, length-digest inner e)),
+      length-digest inner e,
       append-assoc (bytesOfAll inner),
       ← spread-append bytesOf inner ending,
     )

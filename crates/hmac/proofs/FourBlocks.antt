@@ -1,18 +1,18 @@
 -- HMAC is a theorem about the four quarters: the inner hash is the first two, the outer hash the last two. What a quarter does
 -- not look at may be anything. Assumes nothing.
-use mathlib.Core.Path.{_≡_, refl}
+use mathlib.Core.Path.{_≡_}
 use mathlib.Core.List.{List, _++_}
 use Prim.Native.Nat.{ℕ, _≤_}
 use native.Mathlib.Omega.{arith}
 use lib.ListN.{length}
 use lib.Seq.{take-all}
-use Rattle.words.specs.Words.{bytesOf, bytesOfAll}
-use Rattle.words.proofs.Spread.{length-spread}
+use Rattle.words.specs.Words.{bytesOfAll}
 use Rattle.sha256.specs.Constants.{H⁰}
 use Rattle.sha256.specs.Block.{block}
 use Rattle.sha256.proofs.Lengths.{length-block}
 use Rattle.hash.specs.Sha256.{sha256}
 use Rattle.hash.proofs.OneBlock.{sha256-after}
+use Rattle.hash.proofs.Lengths.{length-digest}
 use Rattle.hmac.specs.declared.Quarter.the-variants.{KeyIpad, Message, KeyOpad, InnerDigest}
 use Rattle.hmac.specs.Hmac.{K₀, xorEach, HMAC, ipad, opad}
 use Rattle.hmac.specs.Quarters.{keyBlock, textBlock, chainAfter}
@@ -24,12 +24,12 @@ two-blocks :
     sha256 (xorEach pad (K₀ key) ++ text) ≡ bytesOfAll (block (block H⁰ (keyBlock pad key)) (textBlock text))
 two-blocks pad key text k t = rw (take-all 55 text t) (sha256-after (xorEach pad (K₀ key)) text (length-xored pad key k) t)
 
-length-digest : (H M : List ℕ) → length (bytesOfAll (block H M)) ≤ 55
-length-digest H M = omega (arith, length-spread bytesOf 4 (λ w. refl) (block H M), length-block H M)
+digest-fits : (H M : List ℕ) → length (bytesOfAll (block H M)) ≤ 55
+digest-fits H M = omega (arith, length-digest (block H M) (length-block H M))
 
 pub four-blocks :
     (key message a b c d e : List ℕ) → length key ≡ 32 → length message ≤ 55 →
     HMAC key message ≡
     bytesOfAll (chainAfter InnerDigest key message (chainAfter KeyOpad key message a b) (chainAfter Message key message (chainAfter KeyIpad key message c d) e))
 unfolding HMAC chainAfter
-four-blocks key message a b c d e k m = rw (two-blocks ipad key message k m) (two-blocks opad key _ k (length-digest _ _))
+four-blocks key message a b c d e k m = rw (two-blocks ipad key message k m) (two-blocks opad key _ k (digest-fits _ _))

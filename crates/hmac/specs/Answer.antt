@@ -9,8 +9,8 @@ use Rattle.hash.specs.Answer.{done, refused}
 use Rattle.hmac.specs.Hmac.{HMAC}
 
 -- 6: the key is not 32 bytes; 11: the message is above 55 bytes
-unfoldable pub signed : List ℕ → List ℕ → Answer
-signed key message =
+unfoldable pub hmacAnswer : List ℕ → List ℕ → Answer
+hmacAnswer key message =
     pick (eqb (length key) 32)
     (pick (ltb 55 (length message)) (refused 11) (done (HMAC key message)))
     (refused 6)

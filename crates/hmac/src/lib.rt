@@ -6,7 +6,7 @@ ghost use mathlib.Core.Path.{_≡_};
 ghost use lib.ListN.{length};
 ghost use Rattle.words.specs.Words.{bytesOfAll};
 ghost use Rattle.hmac.specs.Quarters.{keyBlock, textBlock, blockOf, startOf, chainAfter};
-ghost use Rattle.hmac.specs.Answer.{signed};
+ghost use Rattle.hmac.specs.Answer.{hmacAnswer};
 use hash::Answer;
 
 // The four blocks of an HMAC, in their order.
@@ -23,11 +23,7 @@ fn key_of(key: &[u8]) -> [u8; 32]
     ensures { λ r. ⌜ r ≡ now (key .entry) ⌝ }
 {
     let mut k = [0u8; 32];
-    let mut i = 0;
-    while i < 32 {
-        k[i] = key[i];
-        i += 1;
-    }
+    words::copy(key, 0, &mut k);
     k
 }
 
@@ -111,7 +107,7 @@ pub fn chain_after(
 
 // The HMAC of a message under a key. Refusal 6: the key is not 32 bytes; 11: the message is above 55 bytes.
 pub fn hmac(key: &[u8], message: &[u8]) -> Answer
-    ensures { λ r. ⌜ r ≡ signed (now (key .entry)) (now (message .entry)) ⌝ }
+    ensures { λ r. ⌜ r ≡ hmacAnswer (now (key .entry)) (now (message .entry)) ⌝ }
 {
     if key.len() != 32 {
         return hash::refused(6);

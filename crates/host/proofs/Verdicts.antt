@@ -8,13 +8,13 @@ use lib.Dec.{eqb}
 use lib.ListN.{length, getD}
 use Rattle.words.specs.Choice.{pick}
 use Rattle.words.proofs.Choice.{never}
+use Rattle.words.specs.Table.{field}
 use Rattle.compare.specs.Compare.{sameBytes}
 use Rattle.compare.proofs.Agree.{same-self, same-equal}
 use Rattle.hmac.specs.Hmac.{HMAC}
-use Rattle.checks.specs.Layout.{field}
 use Rattle.host.specs.declared.Verdict.{Verdict}
 use Rattle.host.specs.declared.Verdict.the-variants.{Refused, Busy, Failed, WrongTag, WrongSignature, Good}
-use Rattle.host.specs.Reading.{signatureHolds, judged, readReply}
+use Rattle.host.specs.Reading.{signatureHolds, judged, readReply, statusOf}
 
 -- status 80h, the tag sent, and the signature of tag and counter bytes; key, tag and reply of the right lengths
 pub record GoodReply (key tag reply : List ℕ) : Type 0 where
@@ -86,3 +86,18 @@ good-read key tag reply g =
       same-self tag,
       same-self (HMAC key (field 1 16 reply)),
     )
+
+-- the status of a verdict is the reply's first byte, unless that says busy
+status-by :
+    (reply : List ℕ) (a b c : Bool) → eqb (getD reply 0 0) 0x80 ≡ a →
+    statusOf (pick a (pick b (pick c Good WrongSignature) WrongTag) (Failed (getD reply 0 0))) ≡ getD reply 0 0
+unfolding pick
+status-by reply true true true e = sym (eqb-true (getD reply 0 0) 0x80 e)
+status-by reply true true false e = sym (eqb-true (getD reply 0 0) 0x80 e)
+status-by reply true false c e = sym (eqb-true (getD reply 0 0) 0x80 e)
+status-by reply false b c e = refl
+
+pub status-judged : (key tag reply : List ℕ) → eqb (getD reply 0 0 % 2) 1 ≡ false → statusOf (judged key tag reply) ≡ getD reply 0 0
+unfolding judged pick
+status-judged key tag reply idle =
+    rw idle (status-by reply (eqb (getD reply 0 0) 0x80) (sameBytes (field 1 12 reply) tag) (signatureHolds key reply) refl)

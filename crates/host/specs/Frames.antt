@@ -1,8 +1,8 @@
 -- Document 01, "A taken OP1 frame": the four frames that a host builds. Assumes nothing.
 use Prim.Native.Nat.{ℕ}
 use mathlib.Core.List.{List, [], _∷_, _++_}
+use Rattle.words.specs.Table.{field}
 use Rattle.hmac.specs.Hmac.{HMAC}
-use Rattle.checks.specs.Layout.{field}
 
 -- 9Bh; byte 1 is the type, byte 2 the counter, byte 3 reserved
 abbrev pub head : ℕ → ℕ → List ℕ

@@ -5,9 +5,9 @@ use mathlib.Core.List.{List, []}
 use lib.Dec.{eqb}
 use lib.ListN.{length, getD, take, drop}
 use Rattle.words.specs.Choice.{pick}
+use Rattle.words.specs.Table.{field}
 use Rattle.compare.specs.Compare.{sameBytes}
 use Rattle.hmac.specs.Hmac.{HMAC}
-use Rattle.checks.specs.Layout.{field}
 use Rattle.host.specs.declared.Verdict.{Verdict}
 use Rattle.host.specs.declared.Verdict.the-variants.{Refused, Busy, Failed, WrongTag, WrongSignature, Good}
 
@@ -44,7 +44,7 @@ numberOf WrongTag = 18
 numberOf WrongSignature = 19
 numberOf Good = 0
 
--- the status that a verdict carries: the first byte of the reply (proofs/Verdicts.antt)
+-- the status that a verdict stands for; unless busy, the first byte of the reply (`status-judged` in proofs/Verdicts.antt)
 abbrev pub statusOf : Verdict → ℕ
 statusOf (Refused number) = 0
 statusOf Busy = 0x01

@@ -5,7 +5,6 @@ ghost use mathlib.Core.Path.{_≡_};
 ghost use Prim.Native.Nat.{_+_, _≤_};
 ghost use mathlib.Core.List.{_++_};
 ghost use lib.ListN.{length};
-ghost use lib.Seq.{sets};
 ghost use Rattle.hmac.specs.Hmac.{HMAC};
 ghost use Rattle.host.specs.Frames.{head, signedBy, rootKeyFrame};
 ghost use Rattle.host.specs.Reading.{signatureHolds, judged, readReply, partOf};
@@ -37,18 +36,6 @@ fn build_refusal(
     0
 }
 
-// Stores bytes from a place on.
-fn put(bytes: &[u8], at: usize, out: &mut [u8])
-    requires { ⌜ at + length (now bytes) ≤ length (now out) ⌝ }
-    ensures { λ _. ⌜ now (out .exit) ≡ sets (now (out .entry)) at (now (bytes .entry)) ⌝ }
-{
-    let mut i = 0;
-    while i < bytes.len() {
-        out[at + i] = bytes[i];
-        i += 1;
-    }
-}
-
 // The HMAC of a message under a key; both have the right length.
 fn signature(key: &[u8], message: &[u8]) -> [u8; 32]
     requires { ⌜ (length (now key) ≡ 32) × (length (now message) ≤ 55) ⌝ }
@@ -66,10 +53,10 @@ fn put_signed(key: &[u8], frame_type: u8, counter: u8, data: &[u8], out: &mut [u
 {
     let front = [0x9B, frame_type, counter, 0];
     let n = 4 + data.len();
-    put(&front, 0, out);
-    put(data, 4, out);
+    words::place(&front, 0, out);
+    words::place(data, 4, out);
     let signed = signature(key, &out[0..n]);
-    put(&signed, n, out);
+    words::place(&signed, n, out);
 }
 
 // Builds an increment frame, type 02, of the counter data, under the session key.
@@ -129,9 +116,9 @@ fn put_root(counter: u8, key: &[u8], out: &mut [u8])
 {
     let front = [0x9B, 0, counter, 0];
     let signed = signature(key, &front);
-    put(&front, 0, out);
-    put(key, 4, out);
-    put(&signed[4..32], 36, out);
+    words::place(&front, 0, out);
+    words::place(key, 4, out);
+    words::place(&signed[4..32], 36, out);
 }
 
 // Builds a root key frame, type 00: the key sent, and the last 28 bytes of its signature.

@@ -1,2 +1,4 @@
--- That each public function has one answer only.
+-- Images by their layout, slots by their bytes, and that each public function has one answer only.
+pub mod Laid
+pub mod Slots
 pub mod OneAnswer

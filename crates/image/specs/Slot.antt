@@ -3,9 +3,9 @@ use Prim.Native.Nat.{ℕ, _+_}
 use mathlib.Core.Bool.{Bool, true, false, not}
 use mathlib.Core.List.{List}
 use lib.Dec.{eqb}
-use lib.ListN.{getD, replicate}
+use lib.ListN.{replicate}
 use Rattle.words.specs.Choice.{pick}
-use Rattle.words.specs.Table.{table}
+use Rattle.words.specs.Table.{field}
 use Rattle.words.specs.Words.{wordOr0}
 use Rattle.image.specs.declared.Slot.{Slot}
 use Rattle.image.specs.Header.{slotAt}
@@ -42,5 +42,5 @@ isBad slot =
 unfoldable pub rootKey : List ℕ → ℕ → List ℕ
 rootKey image counter =
     pick (isSet (slotOf image counter .root))
-    (table (λ i. getD image (slotAt image counter + 16 + i) 0) 32)
+    (field (slotAt image counter + 16) 32 image)
     (replicate 32 255)

@@ -1,8 +1,6 @@
 // The counter image: its header, refusals 1 to 3, and its slots. Contracts cite specs/, in document 01's words.
 ghost use mathlib.Core.Path.{_≡_};
-ghost use Prim.Native.Nat.{_+_, _<_, _^_};
-ghost use lib.ListN.{getD};
-ghost use Rattle.words.specs.Table.{table};
+ghost use Prim.Native.Nat.{_<_, _^_};
 ghost use Rattle.image.specs.Header.{slotAt};
 ghost use Rattle.image.specs.Refusal.{layoutRefusal, headerRefusal, refusal};
 ghost use Rattle.image.specs.Slot.{slotOf, isState, isBad, rootKey};
@@ -111,20 +109,6 @@ pub fn is_bad(slot: Slot) -> bool
     true
 }
 
-// The 32 bytes at a place, 0 past the end.
-fn key_at(s: &[u8], at: usize) -> [u8; 32]
-    requires { ⌜ at < 2 ^ 42 ⌝ }
-    ensures { λ r. ⌜ r ≡ table (λ i. getD (now (s .entry)) (at + i) 0) 32 ⌝ }
-{
-    let mut key = [0u8; 32];
-    let mut i = 0;
-    while i < 32 {
-        key[i] = words::byte(s, at + i);
-        i += 1;
-    }
-    key
-}
-
 // The root key in use of a counter.
 pub fn root_key(image: &[u8], counter: u8) -> [u8; 32]
     ensures { λ r. ⌜ r ≡ rootKey (now (image .entry)) counter ⌝ }
@@ -133,5 +117,7 @@ pub fn root_key(image: &[u8], counter: u8) -> [u8; 32]
     if words::get(image, at) != 0 {
         return [255u8; 32];
     }
-    key_at(image, at + 16)
+    let mut key = [0u8; 32];
+    words::copy(image, at + 16, &mut key);
+    key
 }

@@ -4,10 +4,10 @@ use mathlib.Core.Path.{_≡_, sym, ap, _∙_}
 use denote.Ref.{now}
 use Rattle.words.proofs.Unique.{OneResult, OneLent}
 use Rattle.state.specs.declared.State.{State}
-use Rattle.lines.specs.declared.Outcome.{Outcome}
+use Rattle.lines.specs.declared.Told.{Told}
 use Rattle.lines.proofs.first_image.Reads as first-image-reads
 use Rattle.lines.proofs.first_line.Reads as first-line-reads
-use Rattle.lines.proofs.told.Reads as told-reads
+use Rattle.lines.proofs.turned.Reads as turned-reads
 use Rattle.lines.proofs.keep.Reads as keep-reads
 
 first-image-one : OneResult first-image-reads.Post
@@ -20,18 +20,18 @@ first-line-one-lent : OneLent first-line-reads.Post (λ κs s. now (s .1 .0))
 first-line-one-lent κs a x y s t p q = p .1 ∙ sym (q .1)
 
 -- an outcome is its length and its state
-same-outcome : (x y : Outcome) → x .length ≡ y .length → x .state ≡ y .state → x ≡ y
-same-outcome x y p q =
+same-told : (x y : Told) → x .length ≡ y .length → x .state ≡ y .state → x ≡ y
+same-told x y p q =
     ap (λ (n : ℕ). record { length = n; state = x .state }) p ∙ ap (λ (s : State). record { length = y .length; state = s }) q
 
-told-one : OneResult told-reads.Post
-told-one κs a x y s t p q = same-outcome x y (p .0 ∙ sym (q .0)) (p .1 ∙ sym (q .1))
+turned-one : OneResult turned-reads.Post
+turned-one κs a x y s t p q = same-told x y (p .0 ∙ sym (q .0)) (p .1 ∙ sym (q .1))
 
-told-one-image : OneLent told-reads.Post (λ κs s. now (s .0))
-told-one-image κs a x y s t p q = p .2 ∙ sym (q .2)
+turned-one-image : OneLent turned-reads.Post (λ κs s. now (s .0))
+turned-one-image κs a x y s t p q = p .2 ∙ sym (q .2)
 
-told-one-output : OneLent told-reads.Post (λ κs s. now (s .1 .1 .1 .0))
-told-one-output κs a x y s t p q = p .3 ∙ sym (q .3)
+turned-one-output : OneLent turned-reads.Post (λ κs s. now (s .1 .1 .1 .0))
+turned-one-output κs a x y s t p q = p .3 ∙ sym (q .3)
 
 keep-one : OneResult keep-reads.Post
 keep-one κs a x y s t p q = p .0 ∙ sym (q .0)

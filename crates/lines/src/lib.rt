@@ -16,8 +16,8 @@ ghost use Rattle.lines.specs.Turn.{framed, worked, readFrame, read, open
 ghost use Rattle.lines.specs.Start.{firstImage, countLine};
 use state::State;
 
-// What a line came to: how many bytes of the output are printed, and the state afterwards.
-pub struct Outcome {
+// What a line is told: how many bytes of the output are printed, and the state afterwards.
+pub struct Told {
     pub length: usize,
     pub state: State,
 }
@@ -42,22 +42,22 @@ pub fn first_line(image: &[u8], out: &mut [u8; 517]) -> usize
 }
 
 // Any other line: `?`, and nothing is touched.
-fn unknown(s: State, out: &mut [u8; 517]) -> Outcome
+fn unknown(s: State, out: &mut [u8; 517]) -> Told
     ensures { λ r. ⌜ (r .length ≡ length unknownLine) × (r .state ≡ s) × (now (out .exit) ≡ printed unknownLine (now (out .entry))) ⌝ }
 {
-    Outcome {
+    Told {
         length: printing::unknown_line(out),
         state: s,
     }
 }
 
 // `P`: power-up.
-fn powered(image: &[u8], out: &mut [u8; 517]) -> Outcome
+fn powered(image: &[u8], out: &mut [u8; 517]) -> Told
     ensures { λ r. ⌜ (r .length ≡ length (numberLine 80 (poweredUp (now (image .entry)) .number))) × (r .state ≡ poweredUp (now (image .entry)) .state) × (now (out .exit) ≡ printed (numberLine 80 (poweredUp (now (image .entry)) .number)) (now (out .entry))) ⌝ }
 {
     let answer = device::power_up(image);
     let state = answer.state;
-    Outcome {
+    Told {
         length: printing::number_line(b'P', answer.number, out),
         state,
     }
@@ -71,7 +71,7 @@ fn room() -> [u8; 256]
 }
 
 // `F`: a frame of at least one byte. It gets no room for output, as none is printed.
-fn sent(image: &[u8], s: State, frame: &[u8], out: &mut [u8; 517]) -> Outcome
+fn sent(image: &[u8], s: State, frame: &[u8], out: &mut [u8; 517]) -> Told
     ensures { λ r. ⌜ (r .length ≡ length (framed (device (now (image .entry)) s) (now (frame .entry)) .text)) × (r .state ≡ framed (device (now (image .entry)) s) (now (frame .entry)) .after .state) × (now (out .exit) ≡ printed (framed (device (now (image .entry)) s) (now (frame .entry)) .text) (now (out .entry))) ⌝ }
 {
     if frame.len() == 0 {
@@ -80,14 +80,14 @@ fn sent(image: &[u8], s: State, frame: &[u8], out: &mut [u8; 517]) -> Outcome
     let mut none = [0u8; 0];
     let answer = device::frame(image, s, frame, &mut none);
     let state = answer.state;
-    Outcome {
+    Told {
         length: printing::number_line(b'F', answer.number, out),
         state,
     }
 }
 
 // `F`, of the frame's digits.
-fn framed(image: &[u8], s: State, digits: &[u8], out: &mut [u8; 517]) -> Outcome
+fn framed(image: &[u8], s: State, digits: &[u8], out: &mut [u8; 517]) -> Told
     ensures { λ r. ⌜ (r .length ≡ length (framed (device (now (image .entry)) s) (readable 256 (now (digits .entry))) .text)) × (r .state ≡ framed (device (now (image .entry)) s) (readable 256 (now (digits .entry))) .after .state) × (now (out .exit) ≡ printed (framed (device (now (image .entry)) s) (readable 256 (now (digits .entry))) .text) (now (out .entry))) ⌝ }
 {
     let mut frame = room();
@@ -96,7 +96,7 @@ fn framed(image: &[u8], s: State, digits: &[u8], out: &mut [u8; 517]) -> Outcome
 }
 
 // `S`: a quota of 0 to 255.
-fn worked(image: &mut [u8], s: State, quota: u32, out: &mut [u8; 517]) -> Outcome
+fn worked(image: &mut [u8], s: State, quota: u32, out: &mut [u8; 517]) -> Told
     ensures { λ r. ⌜ (r .length ≡ length (worked (device (now (image .entry)) s) quota .text)) × (r .state ≡ worked (device (now (image .entry)) s) quota .after .state) × (now (image .exit) ≡ worked (device (now (image .entry)) s) quota .after .image) × (now (out .exit) ≡ printed (worked (device (now (image .entry)) s) quota .text) (now (out .entry))) ⌝ }
 {
     if 255 < quota {
@@ -104,28 +104,28 @@ fn worked(image: &mut [u8], s: State, quota: u32, out: &mut [u8; 517]) -> Outcom
     }
     let answer = device::work(image, s, quota);
     let state = answer.state;
-    Outcome {
+    Told {
         length: printing::work_line(answer.number, answer.steps, out),
         state,
     }
 }
 
 // `R`: the bytes that a read fills, at most 256.
-fn shown(image: &[u8], s: State, bytes: &mut [u8], out: &mut [u8; 517]) -> Outcome
+fn shown(image: &[u8], s: State, bytes: &mut [u8], out: &mut [u8; 517]) -> Told
     requires { ⌜ length (now bytes) ≤ 256 ⌝ }
     ensures { λ r. ⌜ (r .length ≡ length (readLine (afterFrame (now (image .entry)) s readFrame .number) (outputAfterFrame (now (image .entry)) s readFrame (now (bytes .entry))))) × (r .state ≡ afterFrame (now (image .entry)) s readFrame .state) × (now (out .exit) ≡ printed (readLine (afterFrame (now (image .entry)) s readFrame .number) (outputAfterFrame (now (image .entry)) s readFrame (now (bytes .entry)))) (now (out .entry))) ⌝ }
 {
     let frame = [0x96, 0x00];
     let answer = device::frame(image, s, &frame, bytes);
     let state = answer.state;
-    Outcome {
+    Told {
         length: printing::read_line(answer.number, bytes, out),
         state,
     }
 }
 
 // `R`: a read of 1 to 256 bytes.
-fn read(image: &[u8], s: State, size: u32, out: &mut [u8; 517]) -> Outcome
+fn read(image: &[u8], s: State, size: u32, out: &mut [u8; 517]) -> Told
     ensures { λ r. ⌜ (r .length ≡ length (read (device (now (image .entry)) s) size .text)) × (r .state ≡ read (device (now (image .entry)) s) size .after .state) × (now (out .exit) ≡ printed (read (device (now (image .entry)) s) size .text) (now (out .entry))) ⌝ }
 {
     if size == 0 {
@@ -160,7 +160,7 @@ fn alone(letter: u8, line: &[u8]) -> bool
 }
 
 // The turn of a line.
-pub fn told(image: &mut [u8], s: State, line: &[u8], out: &mut [u8; 517]) -> Outcome
+pub fn turned(image: &mut [u8], s: State, line: &[u8], out: &mut [u8; 517]) -> Told
     ensures { λ r. ⌜ (r .length ≡ length (turned (device (now (image .entry)) s) (now (line .entry)) .text)) × (r .state ≡ turned (device (now (image .entry)) s) (now (line .entry)) .after .state) × (now (image .exit) ≡ turned (device (now (image .entry)) s) (now (line .entry)) .after .image) × (now (out .exit) ≡ printed (turned (device (now (image .entry)) s) (now (line .entry)) .text) (now (out .entry))) ⌝ }
 {
     if alone(b'P', line) {

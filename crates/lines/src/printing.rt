@@ -18,11 +18,7 @@ fn put_front(text: &[u8], out: &mut [u8])
     requires { ⌜ length (now text) ≤ length (now out) ⌝ }
     ensures { λ _. ⌜ now (out .exit) ≡ printed (now (text .entry)) (now (out .entry)) ⌝ }
 {
-    let mut i = 0;
-    while i < text.len() {
-        out[i] = text[i];
-        i += 1;
-    }
+    words::place(text, 0, out);
 }
 
 // Prints a number in decimal digits, and a newline. Returns the length.

@@ -5,8 +5,8 @@ use mathlib.Core.Bool.{Bool, true, false}
 use mathlib.Core.List.{[], _∷_}
 use Rattle.words.specs.Choice.{pick}
 use Rattle.words.specs.Table.{table, spread}
-use Rattle.checks.specs.declared.Kind.{Kind}
-use Rattle.checks.specs.declared.Kind.the-variants.{RootKeyAndCounter, RootKey, CounterOnly, Nothing, SessionKey, Increment, Request}
+use Rattle.jobs.specs.declared.Kind.{Kind}
+use Rattle.jobs.specs.declared.Kind.the-variants.{RootKeyAndCounter, RootKey, CounterOnly, Nothing, SessionKey, Increment, Request}
 use Rattle.state.specs.declared.State.{State}
 use Rattle.packed.specs.Codes.{kindByte, kindOf}
 use Rattle.packed.specs.Packed.{packed}

@@ -1,14 +1,13 @@
 -- Bytes stored one run behind the other are stored as one run; a run that is as long as the buffer is what the buffer becomes.
 -- Assumes nothing.
-use Prim.Native.Nat.{ℕ, _+_, _*_, _≤_, _<_}
+use Prim.Native.Nat.{ℕ, _+_, _*_, _<_}
 use mathlib.Core.Path.{_≡_, refl, _∙_}
-use mathlib.Core.List.{List, _∷_, _++_, append-nil}
+use mathlib.Core.List.{List, _∷_, _++_}
 use native.Mathlib.Numerals.{add-one}
 use native.Mathlib.Omega.{arith}
-use lib.ListN.{length, getD, take, set, length-append, drop-of-length-le}
-use lib.Seq.{sets-eq}
+use lib.ListN.{length, getD, take, set, length-append}
 use Rattle.words.specs.Words.{bytesOf, bytesOfAll}
-use Rattle.words.proofs.Runs.{sets-append}
+use Rattle.words.proofs.Runs.{sets-append, sets-all}
 use Rattle.words.proofs.Spread.{spread-more}
 use Rattle.packed.specs.Stored.{Stored}
 
@@ -23,10 +22,7 @@ andThen {l} {m} {k} {v} {w} {i} {n} {j} {p} a b e =
 
 -- a run of the whole buffer
 pub stored-all : {l k v : List ℕ} {n : ℕ} → Stored l 0 v n k → length l ≡ n → k ≡ v
-stored-all {l} {k} {v} {n} a e =
-    let fits : 0 + length v ≤ length l = omega (arith, a .count) in
-    let past : length l ≤ 0 + length v = omega (arith, a .count) in
-    a .stores ∙ sets-eq v l 0 fits ∙ rw (drop-of-length-le l past) (append-nil v)
+stored-all {l} {k} {v} {n} a e = a .stores ∙ sets-all l v (omega (arith, a .count, e))
 
 -- a run of words, one word longer
 pub words-more :

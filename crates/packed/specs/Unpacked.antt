@@ -2,9 +2,8 @@
 use Prim.Native.Nat.{ℕ, _+_, _*_}
 use mathlib.Core.List.{List, [], _∷_}
 use lib.ListN.{getD}
-use Rattle.words.specs.Table.{table}
+use Rattle.words.specs.Table.{table, field}
 use Rattle.words.specs.Words.{wordOr0}
-use Rattle.checks.specs.Layout.{field}
 use Rattle.frames.specs.declared.Reply.{Reply}
 use Rattle.state.specs.declared.Key.{Key}
 use Rattle.state.specs.declared.Job.{Job}

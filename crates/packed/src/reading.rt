@@ -1,12 +1,12 @@
 // The parts of a state, read from its bytes. Bytes that are not there read as 0.
 ghost use mathlib.Core.Path.{_≡_};
 ghost use Prim.Native.Nat.{_≤_};
-ghost use lib.ListN.{length, getD};
-ghost use Rattle.checks.specs.Layout.{field};
+ghost use lib.ListN.{getD};
+ghost use Rattle.words.specs.Table.{field};
 ghost use Rattle.packed.specs.Codes.{flagOf, kindOf};
 ghost use Rattle.packed.specs.Unpacked.{wordsAt, keyAt, keysOf, replyOf, jobOf};
-use checks::Kind;
 use frames::Reply;
+use jobs::Kind;
 use state::Job;
 use state::Key;
 
@@ -42,45 +42,30 @@ fn kind_of(number: u8) -> Kind
     Kind::Request
 }
 
-// Fills a buffer with the bytes from a place on. One loop for the three lengths of arrays below.
-fn copy(s: &[u8], at: usize, out: &mut [u8])
-    requires { ⌜ at ≤ 383 ⌝ }
-    ensures { λ _. ⌜ now (out .exit) ≡ field at (length (now (out .entry))) (now (s .entry)) ⌝ }
-{
-    let mut i = 0;
-    while i < out.len() {
-        out[i] = words::byte(s, at + i);
-        i += 1;
-    }
-}
-
 // The 32 bytes from a place on.
 fn bytes_32(s: &[u8], at: usize) -> [u8; 32]
-    requires { ⌜ at ≤ 383 ⌝ }
     ensures { λ r. ⌜ r ≡ field at 32 (now (s .entry)) ⌝ }
 {
     let mut b = [0u8; 32];
-    copy(s, at, &mut b);
+    words::copy(s, at, &mut b);
     b
 }
 
 // The 48 bytes from a place on.
 fn bytes_48(s: &[u8], at: usize) -> [u8; 48]
-    requires { ⌜ at ≤ 383 ⌝ }
     ensures { λ r. ⌜ r ≡ field at 48 (now (s .entry)) ⌝ }
 {
     let mut b = [0u8; 48];
-    copy(s, at, &mut b);
+    words::copy(s, at, &mut b);
     b
 }
 
 // The 64 bytes from a place on.
 fn bytes_64(s: &[u8], at: usize) -> [u8; 64]
-    requires { ⌜ at ≤ 383 ⌝ }
     ensures { λ r. ⌜ r ≡ field at 64 (now (s .entry)) ⌝ }
 {
     let mut b = [0u8; 64];
-    copy(s, at, &mut b);
+    words::copy(s, at, &mut b);
     b
 }
 

@@ -6,7 +6,7 @@ ghost use Rattle.words.specs.Words.{bytesOfAll};
 ghost use Rattle.packed.specs.Codes.{flagByte, kindByte};
 ghost use Rattle.packed.specs.Packed.{packedHead, packedKey, packedKeys, packedWork};
 ghost use Rattle.packed.specs.Stored.{Stored};
-use checks::Kind;
+use jobs::Kind;
 use state::Key;
 use state::State;
 
@@ -35,16 +35,12 @@ fn kind_byte(kind: Kind) -> u8
     }
 }
 
-// Stores some bytes from a place on. One loop for all lengths of arrays.
+// Stores some bytes from a place on.
 fn put(bytes: &[u8], at: usize, out: &mut [u8; 383])
     requires { ⌜ at + length (now bytes) ≤ 383 ⌝ }
     ensures { λ _. ⌜ Stored (now (out .entry)) at (now (bytes .entry)) (length (now (bytes .entry))) (now (out .exit)) ⌝ }
 {
-    let mut i = 0;
-    while i < bytes.len() {
-        out[at + i] = bytes[i];
-        i += 1;
-    }
+    words::place(bytes, at, out);
 }
 
 // Stores 32 bytes.

@@ -1,3 +1,4 @@
--- What the proofs share, and that each public function has one answer only.
+-- The key words, stores in a counter's slot, and that each public function has one answer only.
 pub mod KeyWords
+pub mod InSlot
 pub mod OneAnswer

@@ -1,2 +1,3 @@
--- What a job stores after its signature.
+-- What a job stores after its signature, and what a store changes of the image.
 pub mod Stores
+pub mod Storing

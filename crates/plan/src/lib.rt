@@ -1,4 +1,5 @@
-// What a job stores after its signature: one aligned word of the slot a step.
+// What a job stores after its signature, one aligned word of the slot a step, and the storing itself: here and nowhere else a
+// word of the image is written.
 //
 // Contracts cite specs/: a list of stores for each kind of job, in document 01's order.
 ghost use mathlib.Core.Path.{_≡_};
@@ -6,7 +7,8 @@ ghost use Prim.Native.Nat.{_<_};
 ghost use mathlib.Core.List.{_++_};
 ghost use lib.ListN.{getD};
 ghost use Rattle.plan.specs.Stores.{keyStore, counterStores, rootStores, incrementStores, noStore, storeOf};
-use checks::Kind;
+ghost use Rattle.plan.specs.Storing.{stored};
+use jobs::Kind;
 
 // One aligned word stored: its place in the slot, and the word.
 pub struct Store {
@@ -91,4 +93,12 @@ pub fn store_of(kind: Kind, i: u8, frame: [u8; 64], kept: u32) -> Store
         Kind::Increment => increment_store(i, kept),
         Kind::Request => Store { at: 0, word: 0 },
     }
+}
+
+// Makes a store in a counter's slot.
+pub fn put_store(image: &mut [u8], counter: u8, store: Store)
+    ensures { λ _. ⌜ now (image .exit) ≡ stored (now (image .entry)) counter store ⌝ }
+{
+    let at = image::slot_at(image, counter) + store.at as usize;
+    words::put(image, at, store.word);
 }

@@ -3,8 +3,8 @@
 // Each hands over the whole answer of one call, so that C sees the digest of a refused call too.
 ghost use mathlib.Core.Path.{_≡_};
 ghost use Rattle.sha256.specs.Block.{block};
-ghost use Rattle.hash.specs.Answer.{hashed};
-ghost use Rattle.hmac.specs.Answer.{signed};
+ghost use Rattle.hash.specs.Answer.{hashAnswer};
+ghost use Rattle.hmac.specs.Answer.{hmacAnswer};
 
 // The chaining words become those after the block m.
 #[no_mangle]
@@ -18,7 +18,7 @@ pub extern "C" fn probe_block(chain: &mut [u32; 8], m: &[u32; 16])
 // The number of the hash's answer; its digest goes to `digest`.
 #[no_mangle]
 pub extern "C" fn probe_hash(message: &[u8], digest: &mut [u8; 32]) -> u32
-    ensures { λ r. ⌜ (r ≡ hashed (now (message .entry)) .number) × (now (digest .exit) ≡ hashed (now (message .entry)) .digest) ⌝ }
+    ensures { λ r. ⌜ (r ≡ hashAnswer (now (message .entry)) .number) × (now (digest .exit) ≡ hashAnswer (now (message .entry)) .digest) ⌝ }
 {
     let hashed = hash::hash(message);
     let bytes = hashed.digest;
@@ -29,7 +29,7 @@ pub extern "C" fn probe_hash(message: &[u8], digest: &mut [u8; 32]) -> u32
 // The number of the HMAC's answer; its digest goes to `digest`.
 #[no_mangle]
 pub extern "C" fn probe_hmac(key: &[u8], message: &[u8], digest: &mut [u8; 32]) -> u32
-    ensures { λ r. ⌜ (r ≡ signed (now (key .entry)) (now (message .entry)) .number) × (now (digest .exit) ≡ signed (now (key .entry)) (now (message .entry)) .digest) ⌝ }
+    ensures { λ r. ⌜ (r ≡ hmacAnswer (now (key .entry)) (now (message .entry)) .number) × (now (digest .exit) ≡ hmacAnswer (now (key .entry)) (now (message .entry)) .digest) ⌝ }
 {
     let signed = hmac::hmac(key, message);
     let mac = signed.digest;

@@ -8,20 +8,19 @@ use borrow.Author.Tests.{eqb-true, eqb-false}
 use lib.Dec.{eqb}
 use lib.ListN.{length, getD}
 use lib.Seq.{ext-getD, getD-set-same}
+use Rattle.hmac.proofs.Lengths.{length-HMAC}
 use Rattle.image.specs.Header.{count}
+use Rattle.image.proofs.Laid.{SameHeader, same-laid}
 use Rattle.checks.specs.Layout.{counterOf}
-use Rattle.checks.specs.Jobs.{commandOf}
-use Rattle.checks.specs.declared.Kind.{Kind}
-use Rattle.checks.specs.declared.Kind.the-variants.{RootKeyAndCounter, RootKey, CounterOnly, Nothing, SessionKey, Increment, Request}
+use Rattle.jobs.specs.Jobs.{commandOf}
+use Rattle.jobs.specs.declared.Kind.{Kind}
+use Rattle.jobs.specs.declared.Kind.the-variants.{RootKeyAndCounter, RootKey, CounterOnly, Nothing, SessionKey, Increment, Request}
 use Rattle.state.specs.declared.Key.{Key}
 use Rattle.state.specs.Parts.{noKey}
-use Rattle.arrival.specs.Arrival.{frameKept, statusOnArrival}
+use Rattle.arrival.specs.Arrival.{statusOnArrival}
 use Rattle.device.specs.Work.{Device}
-use Rattle.rules.specs.Whole.{outcome, kindIn, newKey, refusedWith, keysAfter, carriedOut, whole}
-use Rattle.rules.proofs.Hashing.{length-HMAC}
-use Rattle.rules.proofs.RunsWhole.{short, length-root}
+use Rattle.rules.specs.Whole.{outcome, kindIn, newKey, failedWith, keysAfter, carriedOut, whole}
 use Rattle.promises.specs.Compared.{counterIn, Alike}
-use Rattle.promises.proofs.Slots.{SameHeader, same-laid}
 use Rattle.promises.proofs.Taken.{below-count, one-end}
 use Rattle.promises.proofs.Own.{SameTo}
 use Rattle.promises.proofs.WholeOwn.{Formed, Kept, whole-kept, SameBy, whole-same}
@@ -32,7 +31,7 @@ module _ (d : Device) (frame : List ℕ) (formed : Formed (d .image) (d .state .
 
   -- a new session key has 32 bytes
   long-new : length (newKey d frame) ≡ 32
-  long-new = length-HMAC _ _ (length-root (d .image) c) (short 4 4 (frameKept frame) (omega arith))
+  long-new = length-HMAC _ _
 
   long-own :
       (kind : Kind) → statusOnArrival (d .image) (d .state) frame ≡ 0 → length (getD (keysAfter (commandOf kind) d frame) c noKey .bytes) ≡ 32
@@ -48,7 +47,7 @@ module _ (d : Device) (frame : List ℕ) (formed : Formed (d .image) (d .state .
 
   -- the session key of the frame's counter, afterwards
   long-after : length (getD (whole d frame .keys) c noKey .bytes) ≡ 32
-  unfolding carriedOut refusedWith
+  unfolding carriedOut failedWith
   long-after =
       one-end (λ o. length (getD (o .keys) c noKey .bytes) ≡ 32) d frame (λ passed. long-own (kindIn d frame) passed) (λ status. formed .long c)
 

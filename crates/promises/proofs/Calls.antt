@@ -1,7 +1,7 @@
 -- One call more: what holds along an order of calls holds after it. Assumes nothing.
 use Prim.Native.Nat.{ℕ, zero, suc, _+_, _<_}
 use mathlib.Core.Path.{_≡_, refl, ap, sym, subst, _∙_}
-use mathlib.Core.Logic.{_⊎_, inl, inr, ⊎-elim}
+use mathlib.Core.Logic.{inl, inr, ⊎-elim}
 use mathlib.Core.Bool.{Bool, true, false}
 use mathlib.Core.List.{List}
 use native.Mathlib.Nat.{zero-sub}
@@ -11,29 +11,30 @@ use lib.Dec.{eqb}
 use lib.ListN.{length, getD, replicate}
 use Rattle.words.specs.Choice.{pick}
 use Rattle.image.specs.Refusal.{refusal}
+use Rattle.image.proofs.Laid.{SameHeader, then-header, back-header, same-laid, accepted-laid, same-refusal}
 use Rattle.checks.specs.Layout.{counterOf}
-use Rattle.checks.specs.Jobs.{lengthOf, commandOf, hashSteps}
-use Rattle.checks.specs.declared.Kind.{Kind}
-use Rattle.checks.specs.declared.Kind.the-variants.{RootKeyAndCounter, RootKey, CounterOnly, Nothing, SessionKey, Increment, Request}
+use Rattle.jobs.specs.Jobs.{lengthOf, commandOf, hashSteps}
+use Rattle.jobs.specs.declared.Kind.{Kind}
+use Rattle.jobs.specs.declared.Kind.the-variants.{RootKeyAndCounter, RootKey, CounterOnly, Nothing, SessionKey, Increment, Request}
 use Rattle.state.specs.declared.Key.{Key}
 use Rattle.state.specs.declared.State.{State}
 use Rattle.state.specs.Parts.{noKey, powerOn}
+use Rattle.plan.specs.Storing.{allStored}
 use Rattle.arrival.specs.Arrival.{frameKept, statusOnArrival, jobOf, taken}
 use Rattle.device.specs.Frame.{withEnabled}
 use Rattle.device.specs.Work.{Device, run}
 use Rattle.device.specs.Calls.{device}
-use Rattle.rules.specs.Whole.{Outcome, outcome, kindIn, allStored, whole}
+use Rattle.rules.specs.Whole.{Outcome, outcome, kindIn, whole}
 use Rattle.rules.proofs.Runs.{run-idle, run-add}
 use Rattle.rules.proofs.RunsWhole.{arrived-starts, arrived-fails, runs-whole}
 use Rattle.promises.specs.Compared.{Alike}
 use Rattle.promises.specs.Account.{Account, isBusy, idle, goneBy, worked, interrupted, cut}
-use Rattle.promises.proofs.Slots.{SameHeader, then-header, back-header, same-laid}
 use Rattle.promises.proofs.WholeOwn.{Formed, whole-kept}
 use Rattle.promises.proofs.Progress.{At, no-job-idle, progress}
 use Rattle.promises.proofs.Enabled.{enabledAs, run-same}
 use Rattle.promises.proofs.Alikes.{whole-formed, alike-whole}
 use Rattle.promises.proofs.Ends.{same-end}
-use Rattle.promises.proofs.Sound.{accepted-laid, same-refusal, Resting, started, Working, Sound}
+use Rattle.promises.proofs.Sound.{Resting, started, Working, Sound}
 use Rattle.promises.proofs.Interrupted.{Left, header-as-if, left-behind}
 
 -- the power-on state is formed

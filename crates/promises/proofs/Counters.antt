@@ -1,20 +1,20 @@
--- What is compared of a counter, as its slot's 48 bytes show it, before and after stores. Assumes nothing.
-use Prim.Native.Nat.{ℕ, _+_, _≤_, _<_}
-use mathlib.Core.Path.{_≡_, ap, sym, _∙_}
+-- What is compared of a counter, as its slot's 48 bytes show it, before and after the stores of a job. Assumes nothing.
+use Prim.Native.Nat.{ℕ, _+_, _*_, _/_, _%_, _<_}
+use mathlib.Core.Path.{_≡_, refl}
 use mathlib.Core.List.{List}
-use native.Mathlib.Omega.{arith}
-use borrow.Author.Tests.{le-leb}
-use lib.ListN.{length, getD, replicate}
+use lib.ListN.{replicate}
 use Rattle.words.specs.Choice.{pick}
-use Rattle.words.specs.Table.{table}
-use Rattle.words.specs.Words.{wordAt, wordOr0}
-use Rattle.words.proofs.Table.{table-same, getD-table}
-use Rattle.image.specs.Header.{count, slotAt}
-use Rattle.image.specs.Slot.{slotOf, isSet, rootKey}
-use Rattle.checks.specs.Layout.{field}
-use Rattle.checks.proofs.Fields.{field-word}
+use Rattle.words.specs.Table.{table, spread, field}
+use Rattle.words.specs.Words.{wordOf, wordAt, wordOr0, bytesOfAll, putWord}
+use Rattle.image.specs.Header.{count}
+use Rattle.image.specs.Slot.{isSet, rootKey}
+use Rattle.image.proofs.Laid.{Laid}
+use Rattle.image.proofs.Slots.{slotBytes, root-in, counter-in, value-in, key-in}
+use Rattle.jobs.specs.declared.Kind.{Kind}
+use Rattle.jobs.specs.declared.Kind.the-variants.{RootKeyAndCounter, RootKey, CounterOnly, Nothing, SessionKey, Increment, Request}
+use Rattle.plan.specs.Stores.{keyStores, stores}
+use Rattle.plan.proofs.InSlot.{putAll}
 use Rattle.promises.specs.Compared.{Counter, valueShown, counterIn}
-use Rattle.promises.proofs.Slots.{Laid, place, slotBytes}
 
 -- read from a slot's bytes
 unfoldable pub readCounter : List ℕ → Counter
@@ -26,34 +26,38 @@ readCounter b =
       key = pick (isSet (wordAt b 0)) (field 16 32 b) (replicate 32 255);
     }
 
--- a word of a field of 48 bytes
-word-in : (image : List ℕ) (p k : ℕ) → k + 4 ≤ 48 → p + 48 ≤ length image → wordOr0 image (p + k) ≡ wordAt (field p 48 image) k
-unfolding pick
-word-in image p k h fits = rw (le-leb (p + k + 4) (length image) (omega arith)) (sym (field-word p 48 image k h))
+pub counter-read : (image : List ℕ) (c : ℕ) → Laid image → c < count image → counterIn image c ≡ readCounter (slotBytes image c)
+unfolding counterIn readCounter rootKey
+counter-read image c laid below =
+    rw (root-in image c laid below, counter-in image c laid below, value-in image c laid below, key-in image c)
 
-module _ (image : List ℕ) (c : ℕ) (laid : Laid image) (below : c < count image) where
-  room : slotAt image c + 48 ≤ length image
-  room = let p = place image c laid in omega (arith, p, laid .fits)
+-- the key that a frame brings, as its stores leave it
+unfoldable pub keyBrought : List ℕ → List ℕ
+keyBrought frame = bytesOfAll (table (λ i. wordOr0 frame (4 + 4 * i)) 8)
 
-  pub root-in : slotOf image c .root ≡ wordAt (slotBytes image c) 0
-  unfolding slotOf
-  root-in = ap (wordOr0 image) (omega arith) ∙ word-in image (slotAt image c) 0 (omega arith) room
+-- a word as it is read back
+abbrev pub readBack : ℕ → ℕ
+readBack w = wordOf (w / 16777216) (w / 65536 % 256) (w / 256 % 256) (w % 256)
 
-  pub counter-in : slotOf image c .counter ≡ wordAt (slotBytes image c) 4
-  unfolding slotOf
-  counter-in = word-in image (slotAt image c) 4 (omega arith) room
+-- what a kind of job makes of what is compared
+abbrev pub counterAfter : Kind → List ℕ → ℕ → Counter → Counter
+counterAfter RootKeyAndCounter frame kept p = record { root = 0; counter = 0; value = 0; key = keyBrought frame }
+counterAfter RootKey frame kept p = record { root = 0; counter = p .counter; value = p .value; key = keyBrought frame }
+counterAfter CounterOnly frame kept p = record { root = p .root; counter = 0; value = 0; key = p .key }
+counterAfter Nothing frame kept p = p
+counterAfter SessionKey frame kept p = p
+counterAfter Increment frame kept p =
+    record { root = p .root; counter = p .counter; value = valueShown (p .counter) (readBack kept); key = p .key }
+counterAfter Request frame kept p = p
 
-  value-in : slotOf image c .value ≡ wordAt (slotBytes image c) 8
-  unfolding slotOf
-  value-in = word-in image (slotAt image c) 8 (omega arith) room
-
-  key-in : table (λ i. getD image (slotAt image c + 16 + i) 0) 32 ≡ field 16 32 (slotBytes image c)
-  key-in =
-      sym
-      (table-same _ _ 32
-      (λ i l.
-      getD-table (λ j. getD image (slotAt image c + j) 0) 48 (16 + i) 0 (omega arith) ∙ ap (λ (j : ℕ). getD image j 0) (omega arith)))
-
-  pub counter-read : counterIn image c ≡ readCounter (slotBytes image c)
-  unfolding counterIn readCounter rootKey
-  counter-read = rw (root-in, counter-in, value-in, key-in)
+module _ (g : ℕ → ℕ) (frame : List ℕ) (kept : ℕ) where
+  pub after-stores :
+      (kind : Kind) → readCounter (putAll (stores kind frame kept) (table g 48)) ≡ counterAfter kind frame kept (readCounter (table g 48))
+  unfolding putAll putWord keyStores table spread readCounter keyBrought pick
+  after-stores RootKeyAndCounter = refl
+  after-stores RootKey = refl
+  after-stores CounterOnly = refl
+  after-stores Nothing = refl
+  after-stores SessionKey = refl
+  after-stores Increment = refl
+  after-stores Request = refl

@@ -12,13 +12,13 @@ use Rattle.words.specs.Choice.{pick}
 use Rattle.words.specs.Table.{table}
 use Rattle.words.specs.Words.{wordOf, putWord}
 use Rattle.image.specs.Slot.{isSet}
-use Rattle.checks.specs.declared.Kind.{Kind}
-use Rattle.checks.specs.declared.Kind.the-variants.{RootKeyAndCounter, RootKey, CounterOnly, Nothing, SessionKey, Increment, Request}
+use Rattle.jobs.specs.declared.Kind.{Kind}
+use Rattle.jobs.specs.declared.Kind.the-variants.{RootKeyAndCounter, RootKey, CounterOnly, Nothing, SessionKey, Increment, Request}
 use Rattle.plan.specs.declared.Store.{Store}
 use Rattle.plan.specs.Stores.{keyStores, counterStores, rootStores, incrementStores, stores}
+use Rattle.plan.proofs.InSlot.{putAll}
 use Rattle.promises.specs.Compared.{Counter}
 use Rattle.promises.proofs.Counters.{readCounter}
-use Rattle.promises.proofs.Storing.{putAll}
 
 -- a counter set at 0, all else as it was
 abbrev pub zeroed : Counter → Counter

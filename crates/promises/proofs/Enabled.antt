@@ -6,15 +6,15 @@ use mathlib.Core.List.{List}
 use lib.Dec.{eqb}
 use Rattle.words.specs.Choice.{pick}
 use Rattle.image.specs.Slot.{slotOf}
-use Rattle.checks.specs.Jobs.{commandOf, signatureSteps}
-use Rattle.checks.specs.declared.Command.{Command}
-use Rattle.checks.specs.declared.Command.the-variants.{WriteRootKey, UpdateSessionKey, IncrementCounter, RequestCounter}
+use Rattle.jobs.specs.Jobs.{commandOf, signatureSteps}
+use Rattle.jobs.specs.declared.Command.{Command}
+use Rattle.jobs.specs.declared.Command.the-variants.{WriteRootKey, UpdateSessionKey, IncrementCounter, RequestCounter}
 use Rattle.state.specs.declared.State.{State}
 use Rattle.state.specs.Parts.{posted}
 use Rattle.state.specs.Refusal.{isRunning}
 use Rattle.signing.specs.Hashed.{blockDone, withBlock, hashed}
 use Rattle.steps.specs.Ending.{withKey, withReply, withStep, isLast, finishedBy, advanced}
-use Rattle.steps.specs.Deciding.{keptAfter, withKept, verdictOf, decided, hashStep}
+use Rattle.steps.specs.Deciding.{keptAfter, withKept, decisionOf, decided, hashStep}
 use Rattle.steps.specs.Step.{isHash, stepState, stepImage}
 use Rattle.device.specs.Frame.{withEnabled}
 use Rattle.device.specs.Work.{Device, stepped, run}
@@ -58,8 +58,8 @@ module _ (b : Bool) where
   decided-same : (s : State) (value : ℕ) → decided (withEnabled s b) value ≡ withEnabled (decided s value) b
   unfolding decided withEnabled withKept
   decided-same s value =
-      either-way (eqb (verdictOf s value) 0) (advanced (withKept s (keptAfter (commandOf (s .job .kind)) (s .job .kept) value)))
-      (posted s (verdictOf s value)) _ _
+      either-way (eqb (decisionOf s value) 0) (advanced (withKept s (keptAfter (commandOf (s .job .kind)) (s .job .kept) value)))
+      (posted s (decisionOf s value)) _ _
       (advanced-same (withKept s (keptAfter (commandOf (s .job .kind)) (s .job .kept) value))) refl
 
   hash-same : (image : List ℕ) (s : State) → hashStep image (withEnabled s b) ≡ withEnabled (hashStep image s) b

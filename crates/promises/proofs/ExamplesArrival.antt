@@ -7,12 +7,12 @@ use native.Mathlib.Omega.{arith}
 use borrow.Author.Tests.{lt-ltb, le-ltb, eq-eqb}
 use lib.Dec.{eqb}
 use lib.ListN.{length, getD}
-use Rattle.words.specs.Choice.{pick}
+use Rattle.words.specs.Choice.{pick, orElse}
 use Rattle.words.proofs.Choice.{either}
 use Rattle.image.specs.Slot.{isBad}
 use Rattle.frames.specs.Classes.{namedClass, classOf}
 use Rattle.checks.specs.Layout.{counterOf, frameLength}
-use Rattle.checks.specs.Checks.{shapeStatus, counterStatus, stateStatus, slotStatus, orElse, arrivalStatus}
+use Rattle.checks.specs.Checks.{shapeStatus, counterStatus, stateStatus, slotStatus, arrivalStatus}
 use Rattle.state.specs.Parts.{sessionKey}
 use Rattle.arrival.specs.Arrival.{statusOnArrival, taken}
 use Rattle.device.specs.Frame.{withEnabled}

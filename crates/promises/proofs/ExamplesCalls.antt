@@ -2,7 +2,6 @@
 -- steps. Assumes nothing.
 use Prim.Native.Nat.{ℕ, _+_, _-_, _<_}
 use mathlib.Core.Path.{_≡_, refl, ap, sym, _∙_}
-use mathlib.Core.Logic.{inl}
 use mathlib.Core.Bool.{Bool, true, false}
 use mathlib.Core.List.{List, []}
 use native.Mathlib.Omega.{arith}
@@ -10,6 +9,7 @@ use borrow.Author.Tests.{ltb-true, ltb-false, lt-ltb, ne-eqb}
 use lib.Dec.{ltb}
 use lib.ListN.{length, getD}
 use Rattle.words.specs.Choice.{pick}
+use Rattle.image.proofs.Laid.{accepted-laid}
 use Rattle.state.specs.Refusal.{isRunning}
 use Rattle.frames.specs.declared.Class.the-variants.{Command}
 use Rattle.frames.specs.Classes.{namedClass, classOf}
@@ -21,10 +21,9 @@ use Rattle.rules.proofs.Runs.{run-idle, run-add}
 use Rattle.promises.specs.Orders.{Frame, Work, called, allCalled}
 use Rattle.promises.specs.Account.{Account, accounted}
 use Rattle.promises.specs.Examples.{Example, Ready, Given, script, Seen}
-use Rattle.promises.proofs.Slots.{same-header}
 use Rattle.promises.proofs.Enabled.{enabledAs}
 use Rattle.promises.proofs.Ends.{work-ends}
-use Rattle.promises.proofs.Sound.{accepted-laid, started, Sound}
+use Rattle.promises.proofs.Sound.{started, Sound, rest-sound}
 use Rattle.promises.proofs.FirstHalf.{frame-done, work-done, next, same-device}
 
 -- given what a row says, and called as it says, a device shows what it says
@@ -53,17 +52,8 @@ module _ (d : Device) (ready : Ready d) where
 
   sound : Sound rested
   sound =
-      record {
-        accepted = ready .accepted;
-        state =
-            inl
-            (record {
-              formed = record { laid = accepted-laid (d .image) (ready .accepted); four = ready .four-keys; long = ready .long-keys };
-              none = ready .none;
-              header = same-header (d .image);
-              alike = record { status = refl; reply = refl; keys = refl; counters = λ c below. refl };
-            });
-      }
+      rest-sound d (ready .accepted)
+      (record { laid = accepted-laid (d .image) (ready .accepted); four = ready .four-keys; long = ready .long-keys }) (ready .none)
 
   -- a frame is not refused
   pub frame-called : (frame : List ℕ) → called (Frame frame) d ≡ device (d .image) (stateAfter (classOf frame) (d .image) (d .state) frame)

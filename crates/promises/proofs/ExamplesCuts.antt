@@ -9,20 +9,20 @@ use Rattle.words.specs.Table.{table}
 use Rattle.words.specs.Words.{wordAt, putWord}
 use Rattle.image.specs.Header.{count}
 use Rattle.image.specs.Slot.{slotOf, unset}
+use Rattle.image.proofs.Laid.{Laid, same-laid, accepted-laid}
+use Rattle.image.proofs.Slots.{slotBytes, root-in, counter-in}
 use Rattle.checks.specs.Layout.{counterOf}
-use Rattle.checks.specs.declared.Kind.the-variants.{RootKeyAndCounter}
+use Rattle.jobs.specs.declared.Kind.the-variants.{RootKeyAndCounter}
 use Rattle.plan.specs.declared.Store.{Store}
 use Rattle.plan.specs.Stores.{keyStores, stores}
+use Rattle.plan.specs.Storing.{allStored}
+use Rattle.plan.proofs.InSlot.{allInside, putAll, all-stored}
 use Rattle.arrival.specs.Arrival.{frameKept}
 use Rattle.device.specs.Work.{Device}
-use Rattle.rules.specs.Whole.{allStored}
 use Rattle.promises.specs.Compared.{Counter, counterIn}
 use Rattle.promises.specs.Orders.{allCalled}
 use Rattle.promises.specs.Examples.{P10-cut-after-14, P10-cut-after-13, Ready, Pairs, Seen, script}
-use Rattle.promises.proofs.Slots.{Laid, same-laid, slotBytes}
-use Rattle.promises.proofs.Counters.{readCounter, root-in, counter-in, counter-read}
-use Rattle.promises.proofs.Storing.{allInside, putAll, all-stored}
-use Rattle.promises.proofs.Sound.{accepted-laid}
+use Rattle.promises.proofs.Counters.{readCounter, counter-read}
 use Rattle.promises.proofs.ExamplesJobs.{pairing, nine-and-ten}
 
 module _ (d : Device) (ready : Ready d) (frame : List ℕ) (p : Pairs d frame) where

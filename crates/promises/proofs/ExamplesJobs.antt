@@ -8,27 +8,29 @@ use lib.ListN.{take, replicate}
 use Rattle.words.specs.Choice.{pick}
 use Rattle.words.specs.Words.{wordOr0}
 use Rattle.words.proofs.Table.{length-table}
+use Rattle.words.specs.Table.{field}
 use Rattle.image.specs.Slot.{isBad, rootKey}
-use Rattle.checks.specs.Layout.{counterOf, field}
+use Rattle.checks.specs.Layout.{counterOf}
 use Rattle.checks.specs.Checks.{stateStatus, slotStatus}
-use Rattle.checks.specs.Jobs.{rootKind, kindOf}
-use Rattle.checks.specs.declared.Command.the-variants.{WriteRootKey, IncrementCounter}
-use Rattle.checks.specs.declared.Kind.{Kind}
-use Rattle.checks.specs.declared.Kind.the-variants.{RootKeyAndCounter, Nothing, Increment}
-use Rattle.verdict.specs.Signature.{signatureStatus}
-use Rattle.verdict.specs.Verdict.{incrementStatus, verdict}
+use Rattle.jobs.specs.Jobs.{rootKind, kindOf}
+use Rattle.jobs.specs.declared.Command.the-variants.{WriteRootKey, IncrementCounter}
+use Rattle.jobs.specs.declared.Kind.{Kind}
+use Rattle.jobs.specs.declared.Kind.the-variants.{RootKeyAndCounter, Nothing, Increment}
+use Rattle.decision.specs.Signature.{signatureStatus}
+use Rattle.decision.specs.Decision.{incrementStatus, decision}
 use Rattle.plan.specs.Stores.{keyStores, stores, storeOf}
 use Rattle.state.specs.declared.Key.{Key}
 use Rattle.state.specs.declared.State.{State}
 use Rattle.state.specs.Parts.{posted, sessionKey}
 use Rattle.state.specs.Refusal.{isRunning}
+use Rattle.plan.specs.Storing.{allStored}
 use Rattle.steps.specs.Ending.{withStep, advanced}
-use Rattle.steps.specs.Deciding.{withKept, verdictOf, decided}
+use Rattle.steps.specs.Deciding.{withKept, decisionOf, decided}
 use Rattle.steps.specs.Step.{stepState, stepImage}
 use Rattle.arrival.specs.Arrival.{frameKept, jobOf, taken}
 use Rattle.device.specs.Work.{Device, stepped, run}
 use Rattle.device.specs.Calls.{device}
-use Rattle.rules.specs.Whole.{kindIn, valueIn, keyThere, allStored}
+use Rattle.rules.specs.Whole.{kindIn, valueIn, keyThere}
 use Rattle.rules.proofs.Runs.{run-add}
 use Rattle.rules.proofs.Hashing.{busy, fourth-hmac, begun, hashedAt, afterFour, four-steps}
 use Rattle.rules.proofs.RunsWhole.{short, arrived-starts}
@@ -85,16 +87,16 @@ module _ (d : Device) (ready : Ready d) (frame : List ℕ) where
       (ap (λ (s : State). run 4 (device (d .image) s)) starts ∙ four-steps _ _ _ _ _ _ _ _ _ kind ∙ ap (device (d .image)) decides)
 
   -- a good root key frame passes its check
-  root-good : Good WriteRootKey d frame → verdictOf (hashed Nothing) (valueIn d frame) ≡ 0
-  unfolding verdict signatureStatus pick
+  root-good : Good WriteRootKey d frame → decisionOf (hashed Nothing) (valueIn d frame) ≡ 0
+  unfolding decision signatureStatus pick
   root-good good =
       rw (fourth-hmac (field 4 32 sent) (field 0 4 sent) (d .state .chain) (replicate 8 0) (length-table _ 32) (short 0 4 sent (omega arith)), good)
 
   -- a good increment at FFFFFFFFh does not
   increment-full :
       Good IncrementCounter d frame → wordOr0 sent 4 ≡ 0xFFFFFFFF → valueIn d frame ≡ 0xFFFFFFFF →
-      verdictOf (hashed Increment) (valueIn d frame) ≡ 0x20
-  unfolding verdict signatureStatus incrementStatus pick
+      decisionOf (hashed Increment) (valueIn d frame) ≡ 0x20
+  unfolding decision signatureStatus incrementStatus pick
   increment-full good told full =
       rw (
         fourth-hmac (keyThere d frame) (field 0 8 sent) (d .state .chain) (replicate 8 0) (ready .long-keys c) (short 0 8 sent (omega arith)),

@@ -2,7 +2,7 @@
 -- Assumes nothing.
 use Prim.Native.Nat.{ℕ}
 use mathlib.Core.Path.{_≡_, refl, ap, sym, subst, _∙_}
-use mathlib.Core.Logic.{⊎-elim, inl}
+use mathlib.Core.Logic.{⊎-elim}
 use mathlib.Core.Bool.{Bool, true, false}
 use mathlib.Core.List.{List, [], _∷_}
 use borrow.Author.Tests.{lt-ltb}
@@ -25,9 +25,8 @@ use Rattle.rules.proofs.Runs.{run-idle}
 use Rattle.promises.specs.Compared.{Alike}
 use Rattle.promises.specs.Orders.{Call, PowerUp, Frame, Work, called, numberOf, allCalled}
 use Rattle.promises.specs.Account.{Account, isBusy, goneBy, worked, cut, framed, accounted, account, begun}
-use Rattle.promises.proofs.Slots.{same-header}
 use Rattle.promises.proofs.Progress.{no-job-idle, runs}
-use Rattle.promises.proofs.Sound.{Resting, Working, Sound}
+use Rattle.promises.proofs.Sound.{Resting, Working, Sound, rest-sound}
 use Rattle.promises.proofs.Interrupted.{below-now}
 use Rattle.promises.proofs.Calls.{formed-on, accepted-now, enabled-only, cut-off, taken-by, worked-by}
 
@@ -118,18 +117,7 @@ all-sound [] a sound = sound
 all-sound (call ∷ more) a sound = all-sound more (accounted call a) (next call a sound)
 
 pub start-sound : (image : List ℕ) → refusal image ≡ 0 → Sound (begun image)
-start-sound image accepted =
-    record {
-      accepted = accepted;
-      state =
-          inl
-          (record {
-            formed = formed-on image accepted;
-            none = refl;
-            header = same-header image;
-            alike = record { status = refl; reply = refl; keys = refl; counters = λ c below. refl };
-          });
-    }
+start-sound image accepted = rest-sound (device image powerOn) accepted (formed-on image accepted) refl
 
 -- a device that is idle rests
 pub at-rest : (a : Account) → Sound a → isBusy (a .device) ≡ false → Resting a

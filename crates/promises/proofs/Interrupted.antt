@@ -14,19 +14,20 @@ use Rattle.words.specs.Table.{table}
 use Rattle.words.proofs.Choice.{both}
 use Rattle.image.specs.Header.{count, slotAt}
 use Rattle.image.specs.Slot.{slotOf, isSet}
+use Rattle.image.proofs.Laid.{SameHeader, then-header, back-header, Laid, same-laid}
+use Rattle.image.proofs.Slots.{slotBytes, root-in, counter-in}
 use Rattle.checks.specs.Layout.{counterOf}
-use Rattle.checks.specs.Jobs.{commandOf, hashSteps}
-use Rattle.checks.specs.declared.Kind.{Kind}
-use Rattle.checks.specs.declared.Kind.the-variants.{RootKeyAndCounter, RootKey, CounterOnly, Nothing, SessionKey, Increment, Request}
+use Rattle.jobs.specs.Jobs.{commandOf, hashSteps}
+use Rattle.jobs.specs.declared.Kind.{Kind}
+use Rattle.jobs.specs.declared.Kind.the-variants.{RootKeyAndCounter, RootKey, CounterOnly, Nothing, SessionKey, Increment, Request}
 use Rattle.plan.specs.declared.Store.{Store}
 use Rattle.plan.specs.Stores.{stores}
+use Rattle.plan.proofs.InSlot.{allInside, putAll, all-stored, inside-slot, InSlot}
 use Rattle.arrival.specs.Arrival.{frameKept}
 use Rattle.rules.specs.Whole.{Outcome, kindIn}
 use Rattle.promises.specs.Compared.{Counter, counterIn}
 use Rattle.promises.specs.Account.{Account, hasSet, setTo0, interrupted}
-use Rattle.promises.proofs.Slots.{SameHeader, then-header, back-header, Laid, same-laid, slotBytes}
-use Rattle.promises.proofs.Counters.{readCounter, root-in, counter-in, counter-read}
-use Rattle.promises.proofs.Storing.{allInside, putAll, Stored, all-stored, inside-slot}
+use Rattle.promises.proofs.Counters.{readCounter, counter-read}
 use Rattle.promises.proofs.Taken.{Facts, below-count, facts}
 use Rattle.promises.proofs.WholeOwn.{made, own-after, other-after}
 use Rattle.promises.proofs.Progress.{plan-length}
@@ -73,7 +74,7 @@ module _ (a : Account) (w : Working a) where
   below : c < count found
   below = below-count (w .found) (a .frame) (w .passed)
 
-  some : Stored (take done plan) found c
+  some : InSlot (take done plan) found c
   some =
       all-stored (take done plan) found c (w .formed .laid) below
       (inside-some plan done (inside-slot kind (frameKept (a .frame)) (a .device .state .job .kept)))

@@ -1,7 +1,5 @@
 -- The promises, proved.
-pub mod Slots
 pub mod Counters
-pub mod Storing
 pub mod Taken
 pub mod Own
 pub mod WholeOwn

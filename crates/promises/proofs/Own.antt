@@ -5,23 +5,23 @@ use mathlib.Core.Bool.{Bool, true, false}
 use mathlib.Core.List.{List}
 use borrow.Author.Tests.{ltb-true, eqb-true}
 use lib.Dec.{ltb, eqb}
-use Rattle.words.specs.Choice.{pick}
+use Rattle.words.specs.Choice.{pick, orElse}
 use Rattle.words.proofs.Choice.{never}
 use Rattle.image.specs.Header.{count}
 use Rattle.image.specs.Slot.{slotOf, isSet, isBad, rootKey}
+use Rattle.image.proofs.Laid.{SameHeader}
 use Rattle.checks.specs.Layout.{typeOf, counterOf}
-use Rattle.checks.specs.Checks.{shapeStatus, counterStatus, slotStatus, orElse, arrivalStatus}
-use Rattle.checks.specs.Jobs.{commandOf}
-use Rattle.checks.specs.declared.Kind.{Kind}
-use Rattle.checks.specs.declared.Kind.the-variants.{RootKeyAndCounter, RootKey, CounterOnly, Nothing, SessionKey, Increment, Request}
-use Rattle.verdict.specs.Verdict.{verdict}
+use Rattle.checks.specs.Checks.{shapeStatus, counterStatus, slotStatus, arrivalStatus}
+use Rattle.jobs.specs.Jobs.{commandOf}
+use Rattle.jobs.specs.declared.Kind.{Kind}
+use Rattle.jobs.specs.declared.Kind.the-variants.{RootKeyAndCounter, RootKey, CounterOnly, Nothing, SessionKey, Increment, Request}
+use Rattle.decision.specs.Decision.{decision}
 use Rattle.state.specs.declared.Key.{Key}
 use Rattle.state.specs.Parts.{sessionKey}
 use Rattle.arrival.specs.Arrival.{statusOnArrival}
 use Rattle.device.specs.Work.{Device}
 use Rattle.rules.specs.Whole.{kindIn, keyThere, newKey, lastChecks, allChecks}
 use Rattle.promises.specs.Compared.{Counter, counterIn}
-use Rattle.promises.proofs.Slots.{SameHeader}
 use Rattle.promises.proofs.Taken.{Facts, below-count, facts}
 
 -- two devices that are the same to a frame: the header, its counter as it is compared, and its session key
@@ -97,7 +97,7 @@ module _ (frame : List ℕ) (d e : Device) (same : SameTo frame d e) where
 
     -- checks 8 to 10 come to the same: the value is looked at only where the counter is set
     last-of : (kind : Kind) → Facts kind (slotOf (d .image) c) → lastChecks (commandOf kind) d frame ≡ lastChecks (commandOf kind) e frame
-    unfolding lastChecks verdict
+    unfolding lastChecks decision
     last-of RootKeyAndCounter known = refl
     last-of RootKey known = refl
     last-of CounterOnly known = refl

@@ -10,21 +10,21 @@ use lib.ListN.{length, getD, take}
 use lib.Seq.{take-suc}
 use Rattle.words.specs.Choice.{pick}
 use Rattle.words.proofs.Choice.{never, either}
-use Rattle.checks.specs.Jobs.{lengthOf, commandOf, hashSteps}
-use Rattle.checks.specs.declared.Command.{Command}
-use Rattle.checks.specs.declared.Command.the-variants.{WriteRootKey, UpdateSessionKey, IncrementCounter, RequestCounter}
-use Rattle.checks.specs.declared.Kind.{Kind}
-use Rattle.checks.specs.declared.Kind.the-variants.{RootKeyAndCounter, RootKey, CounterOnly, Nothing, SessionKey, Increment, Request}
+use Rattle.jobs.specs.Jobs.{lengthOf, commandOf, hashSteps}
+use Rattle.jobs.specs.declared.Command.{Command}
+use Rattle.jobs.specs.declared.Command.the-variants.{WriteRootKey, UpdateSessionKey, IncrementCounter, RequestCounter}
+use Rattle.jobs.specs.declared.Kind.{Kind}
+use Rattle.jobs.specs.declared.Kind.the-variants.{RootKeyAndCounter, RootKey, CounterOnly, Nothing, SessionKey, Increment, Request}
 use Rattle.plan.specs.declared.Store.{Store}
 use Rattle.plan.specs.Stores.{keyStores, stores, noStore, storeOf}
 use Rattle.state.specs.declared.State.{State}
 use Rattle.state.specs.Refusal.{isRunning}
+use Rattle.plan.specs.Storing.{stored, allStored}
 use Rattle.signing.specs.Hashed.{withBlock, hashed}
 use Rattle.steps.specs.Ending.{withKey, withReply, withStep, isLast, finishedBy, advanced}
 use Rattle.steps.specs.Deciding.{withKept, decided, hashStep}
-use Rattle.steps.specs.Step.{isHash, storeNow, stored, stepState, stepImage}
+use Rattle.steps.specs.Step.{isHash, storeNow, stepState, stepImage}
 use Rattle.device.specs.Work.{Device, stepped, run}
-use Rattle.rules.specs.Whole.{allStored}
 use Rattle.rules.proofs.Runs.{stepped-idle}
 
 -- no job, none that runs

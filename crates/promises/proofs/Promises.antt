@@ -11,7 +11,7 @@ use Rattle.state.specs.Parts.{noKey, powerOn}
 use Rattle.state.specs.Refusal.{isRunning}
 use Rattle.device.specs.Work.{Device, run}
 use Rattle.device.specs.Calls.{device, outputAfterFrame, afterWork}
-use Rattle.rules.specs.Whole.{Outcome, outcome, refusedWith, whole}
+use Rattle.rules.specs.Whole.{Outcome, outcome, failedWith, whole}
 use Rattle.promises.specs.Compared.{counterIn, Alike}
 use Rattle.promises.specs.Orders.{Call, PowerUp, Frame, Work, called, numberOf, stepsOf, allCalled}
 use Rattle.promises.specs.Account.{isBusy, account, begun}
@@ -50,7 +50,7 @@ pub counters-commute :
 counters-commute c fs gs o formed order =
     (same-counter c fs gs o formed order, same-session c fs gs o formed order, same-statuses c fs gs o formed order)
 
-pub two-bytes-fail : (d : Device) (frame : List ℕ) → length frame ≤ 2 → whole d frame ≡ refusedWith 0x04 d
+pub two-bytes-fail : (d : Device) (frame : List ℕ) → length frame ≤ 2 → whole d frame ≡ failedWith 0x04 d
 two-bytes-fail = short-refused
 
 -- The same of the device, after any calls that leave it idle: each command frame is sent and gets its 15 steps.

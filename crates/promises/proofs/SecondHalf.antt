@@ -12,16 +12,16 @@ use lib.ListN.{length, getD}
 use Rattle.words.specs.Choice.{pick}
 use Rattle.words.proofs.Choice.{both, either}
 use Rattle.image.specs.Header.{count}
+use Rattle.image.proofs.Laid.{SameHeader, same-header, then-header, back-header}
 use Rattle.checks.specs.Layout.{typeOf, counterOf, frameLength}
 use Rattle.checks.specs.Checks.{shapeStatus, arrivalStatus}
 use Rattle.state.specs.Parts.{noKey}
 use Rattle.arrival.specs.Arrival.{statusOnArrival}
 use Rattle.device.specs.Work.{Device}
-use Rattle.rules.specs.Whole.{Outcome, allChecks, refusedWith, whole}
+use Rattle.rules.specs.Whole.{Outcome, allChecks, failedWith, whole}
 use Rattle.promises.specs.Compared.{counterIn}
 use Rattle.promises.specs.Account.{idle}
 use Rattle.promises.specs.Reordering.{belongs, ownFrames, allWhole, ownStatuses}
-use Rattle.promises.proofs.Slots.{SameHeader, same-header, then-header, back-header}
 use Rattle.promises.proofs.Own.{SameTo}
 use Rattle.promises.proofs.WholeOwn.{Formed, Kept, whole-kept, whole-same}
 use Rattle.promises.proofs.Alikes.{whole-formed}
@@ -39,7 +39,7 @@ short-shape frame h =
     rw (ne-eqb (length frame) (frameLength (typeOf frame)) (λ e. omega (arith, long, e))) (either (λ (n : ℕ). n ≡ 0x04) (ltb 3 (typeOf frame)) 0x04 0x04 (λ _. refl) (λ _. refl))
 
 -- so a frame that belongs to no counter fails, and changes no counter and no key
-pub short-refused : (d : Device) (frame : List ℕ) → length frame ≤ 2 → whole d frame ≡ refusedWith 0x04 d
+pub short-refused : (d : Device) (frame : List ℕ) → length frame ≤ 2 → whole d frame ≡ failedWith 0x04 d
 unfolding whole allChecks statusOnArrival arrivalStatus pick
 short-refused d frame h = rw (short-shape frame h)
 
@@ -95,10 +95,10 @@ module _ (c : ℕ) (frame : List ℕ) (o p : Outcome) (same : SameOf c o p) wher
 
   -- nobody's frame, in one
   short-frame : length frame ≤ 2 → SameOf c (whole (idle o) frame) p
-  unfolding refusedWith
+  unfolding failedWith
   short-frame h = subst (λ (q : Outcome). SameOf c q p) (sym (short-refused (idle o) frame h)) left-alone
     where
-      left-alone : SameOf c (refusedWith 0x04 (idle o)) p
+      left-alone : SameOf c (failedWith 0x04 (idle o)) p
       left-alone =
           record {
             formed-o = same .formed-o;

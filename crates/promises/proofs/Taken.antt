@@ -6,20 +6,20 @@ use mathlib.Core.List.{List}
 use native.Mathlib.Omega.{arith}
 use borrow.Author.Tests.{ltb-true, eqb-true, eq-eqb}
 use lib.Dec.{ltb, eqb}
-use Rattle.words.specs.Choice.{pick}
+use Rattle.words.specs.Choice.{pick, orElse}
 use Rattle.words.proofs.Choice.{never, either}
 use Rattle.image.specs.Header.{count}
 use Rattle.image.specs.declared.Slot.{Slot}
 use Rattle.image.specs.Slot.{slotOf, isSet, isBad}
 use Rattle.checks.specs.Layout.{typeOf, counterOf}
-use Rattle.checks.specs.Checks.{shapeStatus, counterStatus, stateStatus, slotStatus, orElse, arrivalStatus}
-use Rattle.checks.specs.Jobs.{rootKind, kindOf}
-use Rattle.checks.specs.declared.Kind.{Kind}
-use Rattle.checks.specs.declared.Kind.the-variants.{RootKeyAndCounter, RootKey, CounterOnly, Nothing, SessionKey, Increment, Request}
+use Rattle.checks.specs.Checks.{shapeStatus, counterStatus, stateStatus, slotStatus, arrivalStatus}
+use Rattle.jobs.specs.Jobs.{rootKind, kindOf}
+use Rattle.jobs.specs.declared.Kind.{Kind}
+use Rattle.jobs.specs.declared.Kind.the-variants.{RootKeyAndCounter, RootKey, CounterOnly, Nothing, SessionKey, Increment, Request}
 use Rattle.state.specs.Parts.{sessionKey}
 use Rattle.arrival.specs.Arrival.{frameKept, isTemporary, statusOnArrival}
 use Rattle.device.specs.Work.{Device}
-use Rattle.rules.specs.Whole.{Outcome, kindIn, allChecks, refusedWith, carriedOut, whole}
+use Rattle.rules.specs.Whole.{Outcome, kindIn, allChecks, failedWith, carriedOut, whole}
 
 -- both checks, where neither fails
 or-zero-by : (a b : ℕ) (t : Bool) → eqb a 0 ≡ t → pick t b a ≡ 0 → (a ≡ 0) × (b ≡ 0)
@@ -107,9 +107,9 @@ module _ (d : Device) (frame : List ℕ) (passed : statusOnArrival (d .image) (d
 pub one-end :
     (P : Outcome → Type 0) (d : Device) (frame : List ℕ) →
     (statusOnArrival (d .image) (d .state) frame ≡ 0 → P (carriedOut (kindIn d frame) d frame)) →
-    ((status : ℕ) → P (refusedWith status d)) → P (whole d frame)
+    ((status : ℕ) → P (failedWith status d)) → P (whole d frame)
 unfolding whole allChecks
 one-end P d frame carried refused =
-    either P (eqb (allChecks d frame) 0) (carriedOut (kindIn d frame) d frame) (refusedWith (allChecks d frame) d)
+    either P (eqb (allChecks d frame) 0) (carriedOut (kindIn d frame) d frame) (failedWith (allChecks d frame) d)
     (λ e. carried (or-zero (statusOnArrival (d .image) (d .state) frame) _ (eqb-true (allChecks d frame) 0 e) .0))
     (λ _. refused (allChecks d frame))

@@ -11,21 +11,22 @@ use lib.Seq.{getD-set-same, getD-set-other}
 use Rattle.words.specs.Choice.{pick}
 use Rattle.image.specs.Header.{count, slotAt}
 use Rattle.image.specs.Slot.{slotOf}
+use Rattle.image.proofs.Laid.{SameHeader, same-header, Laid, same-laid}
 use Rattle.checks.specs.Layout.{counterOf}
-use Rattle.checks.specs.Jobs.{commandOf}
-use Rattle.checks.specs.declared.Kind.{Kind}
-use Rattle.checks.specs.declared.Kind.the-variants.{RootKeyAndCounter, RootKey, CounterOnly, Nothing, SessionKey, Increment, Request}
+use Rattle.jobs.specs.Jobs.{commandOf}
+use Rattle.jobs.specs.declared.Kind.{Kind}
+use Rattle.jobs.specs.declared.Kind.the-variants.{RootKeyAndCounter, RootKey, CounterOnly, Nothing, SessionKey, Increment, Request}
 use Rattle.plan.specs.Stores.{stores}
 use Rattle.state.specs.declared.Key.{Key}
 use Rattle.state.specs.Parts.{noKey}
+use Rattle.plan.specs.Storing.{allStored}
+use Rattle.plan.proofs.InSlot.{all-stored, inside-slot, InSlot}
 use Rattle.steps.specs.Deciding.{keptAfter}
 use Rattle.arrival.specs.Arrival.{frameKept, statusOnArrival}
 use Rattle.device.specs.Work.{Device}
-use Rattle.rules.specs.Whole.{Outcome, kindIn, valueIn, allChecks, refusedWith, keysAfter, replyAfter, allStored, imageAfter, carriedOut, whole}
+use Rattle.rules.specs.Whole.{Outcome, kindIn, valueIn, allChecks, failedWith, keysAfter, replyAfter, imageAfter, carriedOut, whole}
 use Rattle.promises.specs.Compared.{counterIn}
-use Rattle.promises.proofs.Slots.{SameHeader, same-header, Laid, same-laid}
-use Rattle.promises.proofs.Counters.{readCounter, counter-read}
-use Rattle.promises.proofs.Storing.{Stored, all-stored, inside-slot, counterAfter, after-stores}
+use Rattle.promises.proofs.Counters.{readCounter, counter-read, counterAfter, after-stores}
 use Rattle.promises.proofs.Taken.{Facts, below-count, facts, or-zero, one-end}
 use Rattle.promises.proofs.Own.{SameTo, key-there-same, kind-same, new-key-same, value-same, checks-same}
 
@@ -40,7 +41,7 @@ module _ (kind : Kind) (frame : List ℕ) (kept : ℕ) (image : List ℕ) (c : �
   abbrev after : List ℕ
   after = allStored (stores kind frame kept) image c
 
-  pub made : Stored (stores kind frame kept) image c
+  pub made : InSlot (stores kind frame kept) image c
   made = all-stored (stores kind frame kept) image c laid below (inside-slot kind frame kept)
 
   still-laid : Laid after
@@ -95,7 +96,7 @@ module _ (d : Device) (frame : List ℕ) (laid : Laid (d .image)) where
       }
 
   pub whole-kept : Kept d frame (whole d frame)
-  unfolding refusedWith
+  unfolding failedWith
   whole-kept =
       one-end (Kept d frame) d frame carried-kept
       (λ status. record { header = same-header (d .image); size = refl; counters = λ k inside apart. refl; sessions = λ k apart. refl })
@@ -183,7 +184,7 @@ module _
         })
 
   whole-by : (b : Bool) → eqb (allChecks d frame) 0 ≡ b → SameBy frame d e (whole d frame) (whole e frame)
-  unfolding whole pick refusedWith allChecks
+  unfolding whole pick failedWith allChecks
   whole-by true p =
       rw (← checks-same frame d e same, p) (carried-same (or-zero (statusOnArrival (d .image) (d .state) frame) _ (eqb-true (allChecks d frame) 0 p) .0))
   whole-by false p =

@@ -12,9 +12,10 @@ use Rattle.frames.specs.Classes.{classOf}
 use Rattle.checks.specs.Layout.{counterOf}
 use Rattle.plan.specs.Stores.{counterStores}
 use Rattle.state.specs.Parts.{noJob, powerOn}
+use Rattle.plan.specs.Storing.{allStored}
 use Rattle.device.specs.Work.{Device}
 use Rattle.device.specs.Calls.{device}
-use Rattle.rules.specs.Whole.{Outcome, outcome, allStored, whole}
+use Rattle.rules.specs.Whole.{Outcome, outcome, whole}
 use Rattle.promises.specs.Orders.{Call, PowerUp, Frame, Work, called}
 
 -- the device itself, what it would be, and the command frame that found it idle last

@@ -11,9 +11,9 @@ use Rattle.image.specs.declared.Slot.{Slot}
 use Rattle.image.specs.Slot.{slotOf, unset, isSet, isBad}
 use Rattle.image.specs.Refusal.{refusal}
 use Rattle.checks.specs.Layout.{typeOf, counterOf, reservedOf, frameLength}
-use Rattle.checks.specs.declared.Command.{Command}
-use Rattle.checks.specs.declared.Command.the-variants.{WriteRootKey, IncrementCounter}
-use Rattle.verdict.specs.Signature.{signatureHolds}
+use Rattle.jobs.specs.declared.Command.{Command}
+use Rattle.jobs.specs.declared.Command.the-variants.{WriteRootKey, IncrementCounter}
+use Rattle.decision.specs.Signature.{signatureHolds}
 use Rattle.state.specs.Parts.{noKey, sessionKey}
 use Rattle.arrival.specs.Arrival.{frameKept, isTemporary}
 use Rattle.device.specs.Work.{Device}

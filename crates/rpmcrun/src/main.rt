@@ -28,9 +28,9 @@ fn answer(image: &mut [u8], s: State, line: &[u8], kept: usize, out: &mut [u8; 5
     requires { ⌜ kept ≤ length (now line) ⌝ }
     ensures { λ r. ⌜ r .kept ≡ 0 ⌝ }
 {
-    let outcome = lines::told(image, s, &line[..kept], out);
-    let n = outcome.length;
-    let state = outcome.state;
+    let told = lines::turned(image, s, &line[..kept], out);
+    let n = told.length;
+    let state = told.state;
     Heard {
         state,
         kept: 0,
@@ -75,7 +75,7 @@ fn hear(
 }
 
 // Reads once, and goes over what came. At the end of the input a last line without newline is answered too.
-fn turn(
+fn listen(
     chunk: &mut [u8],
     image: &mut [u8],
     h: Heard,
@@ -110,11 +110,11 @@ fn converse(image: &mut [u8], out: &mut [u8; 517]) {
         goes_on: true,
     };
     // a proved loop has to end, and nothing says that the input does: so it counts down from a number that no run uses up
-    let mut turns = u64::MAX;
-    while turns > 0 && heard.goes_on {
-        let next = turn(&mut chunk, image, heard, &mut line, out);
+    let mut reads = u64::MAX;
+    while reads > 0 && heard.goes_on {
+        let next = listen(&mut chunk, image, heard, &mut line, out);
         heard = next;
-        turns -= 1;
+        reads -= 1;
     }
 }
 

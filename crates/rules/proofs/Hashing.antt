@@ -1,24 +1,20 @@
 -- The hash steps of a job: after four of them the state holds the HMAC of its key and message. Assumes nothing.
 use Prim.Native.Nat.{ℕ, _≤_}
-use mathlib.Core.Path.{_≡_, refl, ap, sym, _∙_}
+use mathlib.Core.Path.{_≡_, refl, sym}
 use mathlib.Core.Bool.{true, false}
-use mathlib.Core.List.{List, []}
-use native.Mathlib.Omega.{arith}
+use mathlib.Core.List.{List}
 use lib.ListN.{length}
 use Rattle.words.specs.Choice.{pick}
-use Rattle.words.specs.Words.{bytesOf, bytesOfAll}
-use Rattle.words.proofs.Spread.{length-spread}
-use Rattle.sha256.proofs.Lengths.{length-block}
-use Rattle.hmac.specs.declared.Quarter.{Quarter}
+use Rattle.words.specs.Words.{bytesOfAll}
+use Rattle.words.specs.Table.{field}
 use Rattle.hmac.specs.declared.Quarter.the-variants.{KeyIpad, Message, KeyOpad, InnerDigest}
 use Rattle.hmac.specs.Hmac.{HMAC}
 use Rattle.hmac.specs.Quarters.{chainAfter}
 use Rattle.hmac.proofs.FourBlocks.{four-blocks}
 use Rattle.image.specs.Slot.{slotOf}
-use Rattle.checks.specs.Layout.{field}
-use Rattle.checks.specs.Jobs.{commandOf}
-use Rattle.checks.specs.declared.Kind.{Kind}
-use Rattle.checks.specs.declared.Kind.the-variants.{RootKeyAndCounter, RootKey, CounterOnly, Nothing, SessionKey, Increment, Request}
+use Rattle.jobs.specs.Jobs.{commandOf}
+use Rattle.jobs.specs.declared.Kind.{Kind}
+use Rattle.jobs.specs.declared.Kind.the-variants.{RootKeyAndCounter, RootKey, CounterOnly, Nothing, SessionKey, Increment, Request}
 use Rattle.state.specs.declared.Key.{Key}
 use Rattle.state.specs.declared.State.{State}
 use Rattle.state.specs.Parts.{noReply}
@@ -68,20 +64,6 @@ pub fourth-hmac :
     (key message chain inner : List ℕ) → length key ≡ 32 → length message ≤ 55 → bytesOfAll (fourth key message chain inner) ≡ HMAC key message
 unfolding second fourth
 fourth-hmac key message chain inner k m = sym (four-blocks key message _ _ _ _ _ k m)
-
--- a digest has 32 bytes
-length-chain : (q : Quarter) (key message chain inner : List ℕ) → length (chainAfter q key message chain inner) ≡ 8
-unfolding chainAfter
-length-chain q key message chain inner = length-block _ _
-
-pub length-fourth : (key message chain inner : List ℕ) → length (bytesOfAll (fourth key message chain inner)) ≡ 32
-unfolding fourth
-length-fourth key message chain inner =
-    let eight : length (fourth key message chain inner) ≡ 8 = length-chain InnerDigest key message _ _ in
-    omega (arith, length-spread bytesOf 4 (λ w. refl) (fourth key message chain inner), eight)
-
-pub length-HMAC : (key message : List ℕ) → length key ≡ 32 → length message ≤ 55 → length (HMAC key message) ≡ 32
-length-HMAC key message k m = sym (ap length (fourth-hmac key message [] [] k m)) ∙ length-fourth key message [] []
 
 -- the first four steps of a job, of a key and a message that stay the same
 module _ (image : List ℕ) (keys : List Key) (counter : ℕ) (frame root chain made inner : List ℕ) (kept : ℕ) where

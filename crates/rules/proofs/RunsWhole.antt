@@ -10,22 +10,25 @@ use Rattle.words.specs.Choice.{pick}
 use Rattle.words.specs.Words.{bytesOf, bytesOfAll}
 use Rattle.words.proofs.Table.{length-table}
 use Rattle.words.proofs.Choice.{either}
+use Rattle.words.specs.Table.{field}
 use Rattle.hmac.specs.Hmac.{HMAC}
+use Rattle.hmac.proofs.Lengths.{length-HMAC}
 use Rattle.image.specs.Slot.{rootKey}
-use Rattle.checks.specs.Layout.{counterOf, field}
-use Rattle.checks.specs.Jobs.{commandOf}
-use Rattle.checks.specs.declared.Kind.{Kind}
-use Rattle.checks.specs.declared.Kind.the-variants.{RootKeyAndCounter, RootKey, CounterOnly, Nothing, SessionKey, Increment, Request}
-use Rattle.verdict.specs.Verdict.{verdict}
+use Rattle.checks.specs.Layout.{counterOf}
+use Rattle.jobs.specs.Jobs.{commandOf}
+use Rattle.jobs.specs.declared.Kind.{Kind}
+use Rattle.jobs.specs.declared.Kind.the-variants.{RootKeyAndCounter, RootKey, CounterOnly, Nothing, SessionKey, Increment, Request}
+use Rattle.decision.specs.Decision.{decision}
 use Rattle.state.specs.declared.State.{State}
 use Rattle.state.specs.Refusal.{isRunning}
+use Rattle.plan.specs.Storing.{allStored}
 use Rattle.steps.specs.Deciding.{withKept}
 use Rattle.arrival.specs.Arrival.{frameKept, statusOnArrival, jobOf, taken, arrived}
 use Rattle.device.specs.Work.{Device, run}
 use Rattle.device.specs.Calls.{device}
-use Rattle.rules.specs.Whole.{outcome, valueIn, keyThere, newKey, signature, lastChecks, refusedWith, allStored, carriedOut, kindIn, allChecks, whole}
+use Rattle.rules.specs.Whole.{outcome, valueIn, keyThere, newKey, signature, lastChecks, failedWith, carriedOut, kindIn, allChecks, whole}
 use Rattle.rules.proofs.Runs.{run-idle, run-add}
-use Rattle.rules.proofs.Hashing.{busy, fourth, fourth-hmac, length-fourth, begun, fourthAt, secondAt, afterFour, four-steps, four-more-steps}
+use Rattle.rules.proofs.Hashing.{busy, fourth, fourth-hmac, begun, fourthAt, secondAt, afterFour, four-steps, four-more-steps}
 use Rattle.rules.proofs.Storing.{stored-root-and-counter, stored-root, stored-counter, stored-nothing, stored-increment, stored-request, stored-session}
 use Rattle.rules.proofs.Ended.{ended}
 
@@ -62,7 +65,7 @@ module _ (d : Device) (frame : List ℕ) (formed : length (keyThere d frame) ≡
   abbrev Whole : Kind → Type 0
   Whole kind =
       outcome (run 15 (device (d .image) (start kind))) ≡
-      pick (eqb (lastChecks (commandOf kind) d frame) 0) (carriedOut kind d frame) (refusedWith (lastChecks (commandOf kind) d frame) d)
+      pick (eqb (lastChecks (commandOf kind) d frame) 0) (carriedOut kind d frame) (failedWith (lastChecks (commandOf kind) d frame) d)
 
   root-digest : bytesOfAll (digest Nothing) ≡ signature (commandOf Nothing) d frame
   root-digest = fourth-hmac (field 4 32 sent) (field 0 4 sent) _ _ (length-table _ 32) (short 0 4 sent (omega arith))
@@ -78,12 +81,12 @@ module _ (d : Device) (frame : List ℕ) (formed : length (keyThere d frame) ≡
   unfolding pick
   key-made = fourth-hmac root (field 4 4 sent) _ _ (length-root (d .image) (counterOf frame)) (short 4 4 sent (omega arith))
 
-  -- the verdict on a digest is the verdict on the HMAC that it is
-  same-verdict :
+  -- the decision on a digest is the decision on the HMAC that it is
+  same-decision :
       (kind : Kind) (digest : List ℕ) → digest ≡ signature (commandOf kind) d frame →
-      verdict (commandOf kind) sent digest (valueIn d frame) ≡ lastChecks (commandOf kind) d frame
+      decision (commandOf kind) sent digest (valueIn d frame) ≡ lastChecks (commandOf kind) d frame
   unfolding lastChecks
-  same-verdict kind digest e = ap (λ (g : List ℕ). verdict (commandOf kind) sent g (valueIn d frame)) e
+  same-decision kind digest e = ap (λ (g : List ℕ). decision (commandOf kind) sent g (valueIn d frame)) e
 
   -- the job's steps: four, then eleven
   fifteen : (kind : Kind) → run 15 (device (d .image) (start kind)) ≡ run 11 (run 4 (device (d .image) (start kind)))
@@ -97,35 +100,35 @@ module _ (d : Device) (frame : List ℕ) (formed : length (keyThere d frame) ≡
   four kind = four-steps (d .image) (d .state .keys) (counterOf frame) sent root (d .state .chain) (replicate 32 0) (replicate 8 0) 0 kind
 
   whole-nothing : Whole Nothing
-  unfolding carriedOut refusedWith withKept
+  unfolding carriedOut failedWith withKept
   whole-nothing =
       rw (fifteen Nothing, four Nothing)
-      (ended 11 (d .image) _ (valueIn d frame) _ _ (same-verdict Nothing _ root-digest) (λ e. stored-nothing _ _ _ _ _ _ _ _ _))
+      (ended 11 (d .image) _ (valueIn d frame) _ _ (same-decision Nothing _ root-digest) (λ e. stored-nothing _ _ _ _ _ _ _ _ _))
 
   whole-counter : Whole CounterOnly
-  unfolding carriedOut refusedWith withKept
+  unfolding carriedOut failedWith withKept
   whole-counter =
       rw (fifteen CounterOnly, four CounterOnly)
-      (ended 11 (d .image) _ (valueIn d frame) _ _ (same-verdict CounterOnly _ root-digest) (λ e. stored-counter _ _ _ _ _ _ _ _ _))
+      (ended 11 (d .image) _ (valueIn d frame) _ _ (same-decision CounterOnly _ root-digest) (λ e. stored-counter _ _ _ _ _ _ _ _ _))
 
   whole-root : Whole RootKey
-  unfolding carriedOut refusedWith withKept
+  unfolding carriedOut failedWith withKept
   whole-root =
       rw (fifteen RootKey, four RootKey)
-      (ended 11 (d .image) _ (valueIn d frame) _ _ (same-verdict RootKey _ root-digest) (λ e. stored-root _ _ _ _ _ _ _ _ _))
+      (ended 11 (d .image) _ (valueIn d frame) _ _ (same-decision RootKey _ root-digest) (λ e. stored-root _ _ _ _ _ _ _ _ _))
 
   whole-root-and-counter : Whole RootKeyAndCounter
-  unfolding carriedOut refusedWith withKept
+  unfolding carriedOut failedWith withKept
   whole-root-and-counter =
       rw (fifteen RootKeyAndCounter, four RootKeyAndCounter)
-      (ended 11 (d .image) _ (valueIn d frame) _ _ (same-verdict RootKeyAndCounter _ root-digest)
+      (ended 11 (d .image) _ (valueIn d frame) _ _ (same-decision RootKeyAndCounter _ root-digest)
       (λ e. stored-root-and-counter _ _ _ _ _ _ _ _ _))
 
   whole-increment : Whole Increment
-  unfolding carriedOut refusedWith withKept
+  unfolding carriedOut failedWith withKept
   whole-increment =
       rw (fifteen Increment, four Increment)
-      (ended 11 (d .image) _ (valueIn d frame) _ _ (same-verdict Increment _ increment-digest) (λ e. stored-increment _ _ _ _ _ _ _ _ _))
+      (ended 11 (d .image) _ (valueIn d frame) _ _ (same-decision Increment _ increment-digest) (λ e. stored-increment _ _ _ _ _ _ _ _ _))
 
   reply-signed :
       (chain inner : List ℕ) →
@@ -134,10 +137,10 @@ module _ (d : Device) (frame : List ℕ) (formed : length (keyThere d frame) ≡
   reply-signed chain inner = fourth-hmac (keyThere d frame) _ chain inner formed (length-signed sent (valueIn d frame))
 
   whole-request : Whole Request
-  unfolding carriedOut refusedWith withKept
+  unfolding carriedOut failedWith withKept
   whole-request =
       rw (fifteen Request, four Request)
-      (ended 11 (d .image) _ (valueIn d frame) _ _ (same-verdict Request _ request-digest)
+      (ended 11 (d .image) _ (valueIn d frame) _ _ (same-decision Request _ request-digest)
       (λ e. rw (← reply-signed (digest Request) (inner Request)) (stored-request _ _ _ _ _ _ _ _ _)))
 
   -- a session key job from its fifth step on, with the key that it made
@@ -145,8 +148,8 @@ module _ (d : Device) (frame : List ℕ) (formed : length (keyThere d frame) ≡
       (chain inner made : List ℕ) → length made ≡ 32 → made ≡ newKey d frame →
       outcome (run 11 (device (d .image) (busy SessionKey (d .state .keys) (counterOf frame) sent root 4 chain made inner 0))) ≡
       pick (eqb (lastChecks (commandOf SessionKey) d frame) 0) (carriedOut SessionKey d frame)
-      (refusedWith (lastChecks (commandOf SessionKey) d frame) d)
-  unfolding carriedOut refusedWith withKept allStored
+      (failedWith (lastChecks (commandOf SessionKey) d frame) d)
+  unfolding carriedOut failedWith withKept allStored
   session-ended chain inner made size e =
       let signed = fourth-hmac made (field 0 8 sent) chain inner size (short 0 8 sent (omega arith)) in
       rw (
@@ -154,13 +157,13 @@ module _ (d : Device) (frame : List ℕ) (formed : length (keyThere d frame) ≡
         four-more-steps (d .image) (d .state .keys) (counterOf frame) sent root chain made inner 0,
       )
       (ended 7 (d .image) _ (valueIn d frame) _ _
-      (same-verdict SessionKey _ (signed ∙ ap (λ (key : List ℕ). HMAC key (field 0 8 sent)) e))
+      (same-decision SessionKey _ (signed ∙ ap (λ (key : List ℕ). HMAC key (field 0 8 sent)) e))
       (λ _. rw (← e) (stored-session _ _ _ _ _ _ _ _ _)))
 
   whole-session : Whole SessionKey
   whole-session =
       rw (fifteen SessionKey, four SessionKey)
-      (session-ended (digest SessionKey) (inner SessionKey) (bytesOfAll (digest SessionKey)) (length-fourth _ _ _ _) key-made)
+      (session-ended (digest SessionKey) (inner SessionKey) (bytesOfAll (digest SessionKey)) (ap length key-made ∙ length-HMAC _ _) key-made)
 
   whole-kind : (kind : Kind) → Whole kind
   whole-kind RootKeyAndCounter = whole-root-and-counter
@@ -194,7 +197,7 @@ runs-by :
     (d : Device) (frame : List ℕ) → d .state .job .there ≡ false → length (keyThere d frame) ≡ 32 →
     (b : Bool) → eqb (statusOnArrival (d .image) (d .state) frame) 0 ≡ b →
     outcome (run 15 (device (d .image) (arrived (d .image) (d .state) frame))) ≡ whole d frame
-unfolding whole allChecks taken jobOf pick refusedWith
+unfolding whole allChecks taken jobOf pick failedWith
 runs-by d frame idle formed true e =
     rw (arrived-starts (d .image) (d .state) frame e, e) (whole-kind d frame formed (kindIn d frame))
 runs-by d frame idle formed false e =

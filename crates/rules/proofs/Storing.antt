@@ -6,17 +6,18 @@ use mathlib.Core.List.{List, _++_}
 use lib.ListN.{getD, set}
 use Rattle.words.specs.Choice.{pick}
 use Rattle.words.specs.Words.{bytesOf, bytesOfAll}
+use Rattle.words.specs.Table.{field}
 use Rattle.frames.specs.declared.Reply.{Reply}
-use Rattle.checks.specs.Layout.{field}
-use Rattle.checks.specs.Jobs.{commandOf}
-use Rattle.checks.specs.declared.Command.{Command}
-use Rattle.checks.specs.declared.Command.the-variants.{WriteRootKey, UpdateSessionKey, IncrementCounter, RequestCounter}
-use Rattle.checks.specs.declared.Kind.{Kind}
-use Rattle.checks.specs.declared.Kind.the-variants.{RootKeyAndCounter, RootKey, CounterOnly, Nothing, SessionKey, Increment, Request}
+use Rattle.jobs.specs.Jobs.{commandOf}
+use Rattle.jobs.specs.declared.Command.{Command}
+use Rattle.jobs.specs.declared.Command.the-variants.{WriteRootKey, UpdateSessionKey, IncrementCounter, RequestCounter}
+use Rattle.jobs.specs.declared.Kind.{Kind}
+use Rattle.jobs.specs.declared.Kind.the-variants.{RootKeyAndCounter, RootKey, CounterOnly, Nothing, SessionKey, Increment, Request}
 use Rattle.plan.specs.Stores.{keyStores, stores, storeOf}
 use Rattle.state.specs.declared.Key.{Key}
 use Rattle.state.specs.Parts.{noKey, noReply}
 use Rattle.state.specs.Refusal.{isRunning}
+use Rattle.plan.specs.Storing.{allStored}
 use Rattle.signing.specs.Signing.{quarterOf}
 use Rattle.signing.specs.Hashed.{blockDone, innerAfter, withBlock, hashed}
 use Rattle.steps.specs.Ending.{withKey, withReply, withStep, advanced}
@@ -24,7 +25,7 @@ use Rattle.steps.specs.Deciding.{hashStep}
 use Rattle.steps.specs.Step.{stepState, stepImage}
 use Rattle.device.specs.Work.{stepped, run}
 use Rattle.device.specs.Calls.{device}
-use Rattle.rules.specs.Whole.{outcome, allStored}
+use Rattle.rules.specs.Whole.{outcome}
 use Rattle.rules.proofs.Hashing.{busy, second, fourth}
 
 module _ (image : List ℕ) (keys : List Key) (counter : ℕ) (frame root chain made inner : List ℕ) (kept : ℕ) where

@@ -2,27 +2,26 @@
 -- job has run to its end. Assumes nothing.
 use Prim.Native.Nat.{ℕ}
 use mathlib.Core.Bool.{true}
-use mathlib.Core.List.{List, [], _∷_, _++_}
+use mathlib.Core.List.{List, _++_}
 use lib.Dec.{eqb}
 use lib.ListN.{set}
-use Rattle.words.specs.Choice.{pick}
+use Rattle.words.specs.Choice.{pick, orElse}
 use Rattle.words.specs.Words.{bytesOf}
+use Rattle.words.specs.Table.{field}
 use Rattle.hmac.specs.Hmac.{HMAC}
 use Rattle.image.specs.Slot.{slotOf, rootKey}
 use Rattle.frames.specs.declared.Reply.{Reply}
-use Rattle.checks.specs.Layout.{typeOf, counterOf, field}
-use Rattle.checks.specs.Checks.{orElse}
-use Rattle.checks.specs.Jobs.{commandOf, kindOf}
-use Rattle.checks.specs.declared.Command.{Command}
-use Rattle.checks.specs.declared.Command.the-variants.{WriteRootKey, UpdateSessionKey, IncrementCounter, RequestCounter}
-use Rattle.checks.specs.declared.Kind.{Kind}
-use Rattle.verdict.specs.Verdict.{verdict}
-use Rattle.plan.specs.declared.Store.{Store}
+use Rattle.checks.specs.Layout.{typeOf, counterOf}
+use Rattle.jobs.specs.Jobs.{commandOf, kindOf}
+use Rattle.jobs.specs.declared.Command.{Command}
+use Rattle.jobs.specs.declared.Command.the-variants.{WriteRootKey, UpdateSessionKey, IncrementCounter, RequestCounter}
+use Rattle.jobs.specs.declared.Kind.{Kind}
+use Rattle.decision.specs.Decision.{decision}
 use Rattle.plan.specs.Stores.{stores}
+use Rattle.plan.specs.Storing.{allStored}
 use Rattle.state.specs.declared.Key.{Key}
 use Rattle.state.specs.Parts.{noReply, sessionKey}
 use Rattle.steps.specs.Deciding.{keptAfter}
-use Rattle.steps.specs.Step.{stored}
 use Rattle.arrival.specs.Arrival.{frameKept, isTemporary, statusOnArrival}
 use Rattle.device.specs.Work.{Device}
 
@@ -61,15 +60,15 @@ signature RequestCounter d frame = HMAC (keyThere d frame) (field 0 16 (frameKep
 
 -- checks 8 to 10 of a command: the status of the first that fails, 0 if none does
 unfoldable pub lastChecks : Command → Device → List ℕ → ℕ
-lastChecks command d frame = verdict command (frameKept frame) (signature command d frame) (valueIn d frame)
+lastChecks command d frame = decision command (frameKept frame) (signature command d frame) (valueIn d frame)
 
 -- checks 1 to 10
 unfoldable pub allChecks : Device → List ℕ → ℕ
 allChecks d frame = orElse (statusOnArrival (d .image) (d .state) frame) (lastChecks (commandOf (kindIn d frame)) d frame)
 
 -- a check fails: its status, no reply, and nothing else
-unfoldable pub refusedWith : ℕ → Device → Outcome
-refusedWith status d = record { status = status; keys = d .state .keys; reply = noReply; image = d .image }
+unfoldable pub failedWith : ℕ → Device → Outcome
+failedWith status d = record { status = status; keys = d .state .keys; reply = noReply; image = d .image }
 
 -- 01: the new session key, which replaces an old one
 abbrev pub keysAfter : Command → Device → List ℕ → List Key
@@ -91,11 +90,6 @@ replyAfter RequestCounter d frame =
           ++ HMAC (keyThere d frame) (field 4 12 (frameKept frame) ++ bytesOf (valueIn d frame));
     }
 
--- several words stored in a counter's slot, one after the other
-unfoldable pub allStored : List Store → List ℕ → ℕ → List ℕ
-allStored [] image counter = image
-allStored (store ∷ more) image counter = allStored more (stored image counter store) counter
-
 -- 00: the key, the counter set if it was unset, root set. 02: the next value
 abbrev pub imageAfter : Kind → Device → List ℕ → List ℕ
 imageAfter kind d frame =
@@ -113,4 +107,4 @@ carriedOut kind d frame =
 
 -- a command frame that finds the device idle, run whole
 unfoldable pub whole : Device → List ℕ → Outcome
-whole d frame = pick (eqb (allChecks d frame) 0) (carriedOut (kindIn d frame) d frame) (refusedWith (allChecks d frame) d)
+whole d frame = pick (eqb (allChecks d frame) 0) (carriedOut (kindIn d frame) d frame) (failedWith (allChecks d frame) d)

@@ -5,11 +5,11 @@ use mathlib.Core.List.{List, _++_}
 use lib.Dec.{ltb, eqb}
 use Rattle.words.specs.Choice.{pick}
 use Rattle.words.specs.Words.{bytesOf}
+use Rattle.words.specs.Table.{field}
 use Rattle.hmac.specs.declared.Quarter.{Quarter}
 use Rattle.hmac.specs.declared.Quarter.the-variants.{KeyIpad, Message, KeyOpad, InnerDigest}
-use Rattle.checks.specs.Layout.{field}
-use Rattle.checks.specs.declared.Command.{Command}
-use Rattle.checks.specs.declared.Command.the-variants.{WriteRootKey, UpdateSessionKey, IncrementCounter, RequestCounter}
+use Rattle.jobs.specs.declared.Command.{Command}
+use Rattle.jobs.specs.declared.Command.the-variants.{WriteRootKey, UpdateSessionKey, IncrementCounter, RequestCounter}
 use Rattle.state.specs.declared.State.{State}
 use Rattle.state.specs.Parts.{sessionKey}
 

@@ -5,12 +5,12 @@ ghost use mathlib.Core.Path.{_≡_};
 ghost use Prim.Native.Nat.{_≤_};
 ghost use mathlib.Core.List.{_++_};
 ghost use Rattle.words.specs.Words.{bytesOf};
-ghost use Rattle.checks.specs.Layout.{field};
+ghost use Rattle.words.specs.Table.{field};
 ghost use Rattle.hmac.specs.Quarters.{chainAfter};
 ghost use Rattle.signing.specs.Signing.{quarterOf, keyOf, messageOf};
 ghost use Rattle.signing.specs.Hashed.{blockDone, innerAfter, madeAfter, withBlock, hashed};
-use checks::Command;
 use hmac::Quarter;
+use jobs::Command;
 use state::State;
 
 // The quarter of an HMAC that a step hashes.
@@ -35,11 +35,7 @@ fn key_sent(frame: [u8; 64]) -> [u8; 32]
     ensures { λ r. ⌜ r ≡ field 4 32 frame ⌝ }
 {
     let mut key = [0u8; 32];
-    let mut i = 0;
-    while i < 32 {
-        key[i] = frame[4 + i];
-        i += 1;
-    }
+    words::place(&frame[4..36], 0, &mut key);
     key
 }
 
@@ -79,11 +75,7 @@ pub fn tag_and_value(frame: [u8; 64], value: u32) -> [u8; 16]
     ensures { λ r. ⌜ r ≡ field 4 12 frame ++ bytesOf value ⌝ }
 {
     let mut m = [0u8; 16];
-    let mut i = 0;
-    while i < 12 {
-        m[i] = frame[4 + i];
-        i += 1;
-    }
+    words::place(&frame[4..16], 0, &mut m);
     words::put(&mut m, 12, value);
     m
 }
@@ -208,6 +200,6 @@ pub fn hashed(s: State) -> State
 {
     let job = s.job;
     let kind = job.kind;
-    let command = checks::command_of(kind);
+    let command = jobs::command_of(kind);
     with_block(command, s, block_done(command, s))
 }

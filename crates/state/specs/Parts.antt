@@ -3,7 +3,7 @@ use Prim.Native.Nat.{ℕ}
 use mathlib.Core.Bool.{false}
 use lib.ListN.{getD, replicate}
 use Rattle.frames.specs.declared.Reply.{Reply}
-use Rattle.checks.specs.declared.Kind.the-variants.{Nothing}
+use Rattle.jobs.specs.declared.Kind.the-variants.{Nothing}
 use Rattle.state.specs.declared.Key.{Key}
 use Rattle.state.specs.declared.Job.{Job}
 use Rattle.state.specs.declared.State.{State}

@@ -3,11 +3,10 @@ use Prim.Native.Nat.{ℕ}
 use mathlib.Core.Bool.{Bool, false}
 use mathlib.Core.List.{List}
 use lib.Dec.{ltb}
-use Rattle.words.specs.Choice.{pick}
+use Rattle.words.specs.Choice.{pick, orElse}
 use Rattle.image.specs.Header.{count}
 use Rattle.image.specs.Refusal.{refusal}
-use Rattle.checks.specs.Checks.{orElse}
-use Rattle.checks.specs.Jobs.{lengthOf}
+use Rattle.jobs.specs.Jobs.{lengthOf}
 use Rattle.state.specs.declared.State.{State}
 
 -- a job runs: it is there, and its step number, the number of steps done, is below the length of its kind of job

@@ -5,8 +5,8 @@ ghost use mathlib.Core.Path.{_≡_};
 ghost use lib.ListN.{getD};
 ghost use Rattle.state.specs.Parts.{noKey, noReply, noJob, powerOn, sessionKey, posted};
 ghost use Rattle.state.specs.Refusal.{isRunning, jobRefusal, deviceRefusal};
-use checks::Kind;
 use frames::Reply;
+use jobs::Kind;
 
 // A session key, or that there is none.
 pub struct Key {
@@ -127,7 +127,7 @@ pub fn is_running(s: State) -> bool
     let job = s.job;
     if job.there {
         let kind = job.kind;
-        return job.step < checks::length_of(kind);
+        return job.step < jobs::length_of(kind);
     }
     false
 }

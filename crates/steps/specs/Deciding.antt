@@ -5,10 +5,10 @@ use lib.Dec.{eqb}
 use Rattle.words.specs.Choice.{pick}
 use Rattle.words.specs.Words.{bytesOfAll}
 use Rattle.image.specs.Slot.{slotOf}
-use Rattle.checks.specs.Jobs.{commandOf, signatureSteps}
-use Rattle.checks.specs.declared.Command.{Command}
-use Rattle.checks.specs.declared.Command.the-variants.{WriteRootKey, UpdateSessionKey, IncrementCounter, RequestCounter}
-use Rattle.verdict.specs.Verdict.{verdict}
+use Rattle.jobs.specs.Jobs.{commandOf, signatureSteps}
+use Rattle.jobs.specs.declared.Command.{Command}
+use Rattle.jobs.specs.declared.Command.the-variants.{WriteRootKey, UpdateSessionKey, IncrementCounter, RequestCounter}
+use Rattle.decision.specs.Decision.{decision}
 use Rattle.state.specs.declared.State.{State}
 use Rattle.state.specs.Parts.{withJob, posted}
 use Rattle.signing.specs.Hashed.{hashed}
@@ -38,14 +38,14 @@ withKept s kept =
     })
 
 -- the status that checks 8 to 10 give, of the digest that the state holds and the counter value
-abbrev pub verdictOf : State → ℕ → ℕ
-verdictOf s value = verdict (commandOf (s .job .kind)) (s .job .frame) (bytesOfAll (s .chain)) value
+abbrev pub decisionOf : State → ℕ → ℕ
+decisionOf s value = decision (commandOf (s .job .kind)) (s .job .frame) (bytesOfAll (s .chain)) value
 
 -- a failed check ends the job and changes nothing but status
 unfoldable pub decided : State → ℕ → State
 decided s value =
-    pick (eqb (verdictOf s value) 0) (advanced (withKept s (keptAfter (commandOf (s .job .kind)) (s .job .kept) value)))
-    (posted s (verdictOf s value))
+    pick (eqb (decisionOf s value) 0) (advanced (withKept s (keptAfter (commandOf (s .job .kind)) (s .job .kept) value)))
+    (posted s (decisionOf s value))
 
 -- one SHA-256 block, and in the last of the signature check the checks
 unfoldable pub hashStep : List ℕ → State → State

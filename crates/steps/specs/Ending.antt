@@ -6,10 +6,10 @@ use lib.Dec.{eqb}
 use lib.ListN.{set}
 use Rattle.words.specs.Choice.{pick}
 use Rattle.words.specs.Words.{bytesOf, bytesOfAll}
-use Rattle.checks.specs.Layout.{field}
-use Rattle.checks.specs.Jobs.{lengthOf, commandOf}
-use Rattle.checks.specs.declared.Command.{Command}
-use Rattle.checks.specs.declared.Command.the-variants.{WriteRootKey, UpdateSessionKey, IncrementCounter, RequestCounter}
+use Rattle.words.specs.Table.{field}
+use Rattle.jobs.specs.Jobs.{lengthOf, commandOf}
+use Rattle.jobs.specs.declared.Command.{Command}
+use Rattle.jobs.specs.declared.Command.the-variants.{WriteRootKey, UpdateSessionKey, IncrementCounter, RequestCounter}
 use Rattle.state.specs.declared.State.{State}
 use Rattle.state.specs.Parts.{withJob, posted}
 

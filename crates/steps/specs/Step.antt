@@ -1,14 +1,13 @@
 -- Document 01, "Steps": one step is one SHA-256 block or one aligned image word stored. Assumes nothing.
-use Prim.Native.Nat.{ℕ, _+_, _-_}
+use Prim.Native.Nat.{ℕ, _-_}
 use mathlib.Core.Bool.{Bool}
 use mathlib.Core.List.{List}
 use lib.Dec.{ltb}
 use Rattle.words.specs.Choice.{pick}
-use Rattle.words.specs.Words.{withWord}
-use Rattle.image.specs.Header.{slotAt}
-use Rattle.checks.specs.Jobs.{commandOf, hashSteps}
+use Rattle.jobs.specs.Jobs.{commandOf, hashSteps}
 use Rattle.plan.specs.declared.Store.{Store}
 use Rattle.plan.specs.Stores.{storeOf}
+use Rattle.plan.specs.Storing.{stored}
 use Rattle.state.specs.declared.Job.{Job}
 use Rattle.state.specs.declared.State.{State}
 use Rattle.state.specs.Refusal.{isRunning}
@@ -22,10 +21,6 @@ isHash job = ltb (job .step) (hashSteps (commandOf (job .kind)))
 -- the word that the job's next step stores
 abbrev pub storeNow : Job → Store
 storeNow job = storeOf (job .kind) (job .step - hashSteps (commandOf (job .kind))) (job .frame) (job .kept)
-
--- the image with a store made in a counter's slot: these four bytes and no other
-unfoldable pub stored : List ℕ → ℕ → Store → List ℕ
-stored image counter store = withWord image (slotAt image counter + store .at) (store .word)
 
 -- the state after a step; idle, nothing changes
 unfoldable pub stepState : List ℕ → State → State

@@ -4,17 +4,16 @@
 ghost use mathlib.Core.Path.{_≡_};
 ghost use mathlib.Core.List.{_++_};
 ghost use Prim.Native.Nat.{_+_, _<_, _≤_};
-ghost use lib.ListN.{length, set};
-ghost use lib.Seq.{sets};
+ghost use lib.ListN.{set};
 ghost use Rattle.words.specs.Words.{bytesOf, bytesOfAll};
-ghost use Rattle.checks.specs.Layout.{field};
-ghost use Rattle.checks.specs.Jobs.{commandOf, hashSteps};
+ghost use Rattle.words.specs.Table.{field};
+ghost use Rattle.jobs.specs.Jobs.{commandOf, hashSteps};
+ghost use Rattle.plan.specs.Storing.{stored};
 ghost use Rattle.steps.specs.Ending.{withKey, withReply, finishedBy, isLast, withStep, advanced};
-ghost use Rattle.steps.specs.Deciding.{keptAfter, withKept, verdictOf, decided, hashStep};
-ghost use Rattle.steps.specs.Step.{stored, storeNow, stepState, stepImage};
-use checks::Command;
+ghost use Rattle.steps.specs.Deciding.{keptAfter, withKept, decisionOf, decided, hashStep};
+ghost use Rattle.steps.specs.Step.{storeNow, stepState, stepImage};
 use frames::Reply;
-use plan::Store;
+use jobs::Command;
 use state::Key;
 use state::State;
 
@@ -41,26 +40,14 @@ fn with_key(s: State, counter: u8, bytes: [u8; 32]) -> State
     t
 }
 
-// The reply's bytes with some of them stored from a place on.
-fn placed(reply: [u8; 48], at: usize, bytes: &[u8]) -> [u8; 48]
-    requires { ⌜ at + length (now bytes) ≤ 48 ⌝ }
-    ensures { λ r. ⌜ r ≡ sets reply at (now (bytes .entry)) ⌝ }
-{
-    let mut r = reply;
-    let mut i = 0;
-    while i < bytes.len() {
-        r[at + i] = bytes[i];
-        i += 1;
-    }
-    r
-}
-
 // What was signed and its signature, one after the other.
 fn reply_bytes(message: [u8; 16], signature: [u8; 32]) -> [u8; 48]
     ensures { λ r. ⌜ r ≡ message ++ signature ⌝ }
 {
-    let front = placed([0u8; 48], 0, &message);
-    placed(front, 16, &signature)
+    let mut bytes = [0u8; 48];
+    words::place(&message, 0, &mut bytes);
+    words::place(&signature, 16, &mut bytes);
+    bytes
 }
 
 // The state with a reply.
@@ -116,7 +103,7 @@ fn is_last(s: State) -> bool
     let job = s.job;
     let kind = job.kind;
     let next = job.step + 1;
-    next == checks::length_of(kind)
+    next == jobs::length_of(kind)
 }
 
 // The state with one more step done.
@@ -131,13 +118,14 @@ fn with_next(s: State) -> State
     t
 }
 
-// The state after the last step of the job.
+// The state after the last step of the job. Each step that can be the last asks by itself and calls this or `with_next`: in a
+// function of their own the two are not inlined, and each step copies the state.
 fn finished(s: State) -> State
     ensures { λ r. ⌜ r ≡ finishedBy (commandOf (s .job .kind)) s ⌝ }
 {
     let job = s.job;
     let kind = job.kind;
-    finished_by(checks::command_of(kind), s)
+    finished_by(jobs::command_of(kind), s)
 }
 
 // The word that a job keeps once its checks have passed.
@@ -164,14 +152,14 @@ fn with_kept(s: State, kept: u32) -> State
 }
 
 // Checks 8 to 10, of the digest that the state holds.
-fn verdict_of(s: State, value: u32) -> u8
-    ensures { λ r. ⌜ r ≡ verdictOf s value ⌝ }
+fn decision_of(s: State, value: u32) -> u8
+    ensures { λ r. ⌜ r ≡ decisionOf s value ⌝ }
 {
     let job = s.job;
     let kind = job.kind;
     let frame = job.frame;
     let chain = s.chain;
-    verdict::verdict(checks::command_of(kind), frame, hash::digest(chain), value)
+    decision::decision(jobs::command_of(kind), frame, hash::digest(chain), value)
 }
 
 // The state after the last step of the signature check: a failed check ends the job.
@@ -179,13 +167,13 @@ fn decided(s: State, value: u32) -> State
     requires { ⌜ s .job .step < 255 ⌝ }
     ensures { λ r. ⌜ r ≡ decided s value ⌝ }
 {
-    let status = verdict_of(s, value);
+    let status = decision_of(s, value);
     if status != 0 {
         return state::posted(s, status);
     }
     let job = s.job;
     let kind = job.kind;
-    let kept = kept_after(checks::command_of(kind), job.kept, value);
+    let kept = kept_after(jobs::command_of(kind), job.kept, value);
     let t = with_kept(s, kept);
     if is_last(t) {
         return finished(t);
@@ -202,7 +190,7 @@ fn hash_step(image: &[u8], s: State) -> State
     let job = s.job;
     let kind = job.kind;
     let next = job.step + 1;
-    if next == checks::signature_steps(checks::command_of(kind)) {
+    if next == jobs::signature_steps(jobs::command_of(kind)) {
         let slot = image::slot_of(image, job.counter);
         return decided(t, slot.value);
     }
@@ -210,14 +198,6 @@ fn hash_step(image: &[u8], s: State) -> State
         return finished(t);
     }
     with_next(t)
-}
-
-// Makes a store in a counter's slot.
-fn put_store(image: &mut [u8], counter: u8, store: Store)
-    ensures { λ _. ⌜ now (image .exit) ≡ stored (now (image .entry)) counter store ⌝ }
-{
-    let at = image::slot_at(image, counter) + store.at as usize;
-    words::put(image, at, store.word);
 }
 
 // A step that stores a word.
@@ -228,9 +208,9 @@ fn store_step(image: &mut [u8], s: State) -> State
     let job = s.job;
     let kind = job.kind;
     let frame = job.frame;
-    let i = job.step - checks::hash_steps(checks::command_of(kind));
+    let i = job.step - jobs::hash_steps(jobs::command_of(kind));
     let store = plan::store_of(kind, i, frame, job.kept);
-    put_store(image, job.counter, store);
+    plan::put_store(image, job.counter, store);
     if is_last(s) {
         return finished(s);
     }
@@ -244,7 +224,7 @@ pub fn step(image: &mut [u8], s: State) -> State
     if state::is_running(s) {
         let job = s.job;
         let kind = job.kind;
-        if job.step < checks::hash_steps(checks::command_of(kind)) {
+        if job.step < jobs::hash_steps(jobs::command_of(kind)) {
             return hash_step(image, s);
         }
         return store_step(image, s);

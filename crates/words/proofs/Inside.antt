@@ -1,12 +1,13 @@
--- Reading and storing words that are all inside, or not. Assumes nothing.
+-- Reading and storing words, and storing bytes in a row, that are all inside, or not. Assumes nothing.
 use mathlib.Core.Path.{_≡_}
 use mathlib.Core.List.{List, _++_}
 use Prim.Native.Nat.{ℕ, _+_, _*_, _≤_, _<_}
 use native.Mathlib.Omega.{arith}
 use borrow.Author.Tests.{le-leb, lt-leb}
 use lib.ListN.{length, List·getD-append}
+use lib.Seq.{sets}
 use Rattle.words.specs.Choice.{pick}
-use Rattle.words.specs.Words.{wordAt, wordsOf, putWord, wordOr0, withWord}
+use Rattle.words.specs.Words.{wordAt, wordsOf, putWord, wordOr0, withWord, placed}
 use Rattle.words.proofs.Table.{table-same}
 
 module _ (s : List ℕ) (at : ℕ) (h : at + 4 ≤ length s) where
@@ -27,6 +28,15 @@ module _ (s : List ℕ) (at : ℕ) (h : length s < at + 4) where
   pub put-outside : (w : ℕ) → withWord s at w ≡ s
   unfolding pick
   put-outside w = rw (lt-leb (at + 4) (length s) h)
+
+-- bytes in a row, likewise
+pub place-inside : (s : List ℕ) (at : ℕ) (bytes : List ℕ) → at + length bytes ≤ length s → placed s at bytes ≡ sets s at bytes
+unfolding pick
+place-inside s at bytes h = rw (le-leb (at + length bytes) (length s) h)
+
+pub place-outside : (s : List ℕ) (at : ℕ) (bytes : List ℕ) → length s < at + length bytes → placed s at bytes ≡ s
+unfolding pick
+place-outside s at bytes h = rw (lt-leb (at + length bytes) (length s) h)
 
 -- words that lie in the first of two lists
 pub words-front : (n : ℕ) (s t : List ℕ) → 4 * n ≤ length s → wordsOf n (s ++ t) ≡ wordsOf n s

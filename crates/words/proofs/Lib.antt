@@ -7,4 +7,6 @@ pub mod Choice
 pub mod Filling
 pub mod Inside
 pub mod Table
+pub mod Fields
+pub mod Puts
 pub mod Runs

@@ -4,8 +4,10 @@ use mathlib.Core.Path.{_≡_, refl, _∙_}
 use mathlib.Core.List.{List, [], _∷_, _++_, append-nil}
 use native.Mathlib.Numerals.{add-one}
 use native.Mathlib.Omega.{arith}
-use lib.ListN.{length, getD, take, drop, set, drop-of-length-le}
-use lib.Seq.{sets, sets-eq, take-suc, take-at, length-take-le}
+use lib.ListN.{length, getD, take, drop, set, drop-of-length-le, length-append}
+use lib.Seq.{sets, sets-eq, length-sets, take-suc, take-at, length-take-le}
+use Rattle.words.specs.Words.{placed}
+use Rattle.words.proofs.Inside.{place-inside}
 
 -- the next run is stored where the first one ends
 pub sets-append : (l : List ℕ) (i n : ℕ) (v w : List ℕ) → length v ≡ n → sets (sets l i v) (i + n) w ≡ sets l i (v ++ w)
@@ -28,10 +30,27 @@ sets-front l v h =
     let e : 0 + length v ≡ length v = omega arith in
     sets-eq v l 0 (omega arith) ∙ rw e
 
--- what was stored at the front is there
-pub take-sets : (l v : List ℕ) (n : ℕ) → length v ≡ n → n ≤ length l → take n (sets l 0 v) ≡ v
-take-sets l v n e h = rw (sets-front l v (omega arith)) (take-at v (drop (length v) l) n e)
-
 -- a run of all of it
 pub sets-all : (l v : List ℕ) → length v ≡ length l → sets l 0 v ≡ v
 sets-all l v e = sets-front l v (omega arith) ∙ rw (drop-of-length-le l {i = length v} (omega arith)) (append-nil v)
+
+-- the same of bytes that are placed, where they are all inside
+pub place-append :
+    (l : List ℕ) (i n : ℕ) (v w : List ℕ) → length v ≡ n → i + n + length w ≤ length l →
+    placed (placed l i v) (i + n) w ≡ placed l i (v ++ w)
+place-append l i n v w e fits =
+    rw (
+      place-inside l i v (omega (arith, e)),
+      place-inside l i (v ++ w) (omega (arith, e, length-append v w)),
+      place-inside (sets l i v) (i + n) w (omega (arith, length-sets l i v)),
+    )
+    (sets-append l i n v w e)
+
+pub place-front : (l v : List ℕ) → length v ≤ length l → placed l 0 v ≡ v ++ drop (length v) l
+place-front l v h = place-inside l 0 v (omega arith) ∙ sets-front l v h
+
+pub take-placed : (l v : List ℕ) (n : ℕ) → length v ≡ n → n ≤ length l → take n (placed l 0 v) ≡ v
+take-placed l v n e h = rw (place-front l v (omega arith)) (take-at v (drop (length v) l) n e)
+
+pub place-all : (l v : List ℕ) → length v ≡ length l → placed l 0 v ≡ v
+place-all l v e = place-inside l 0 v (omega arith) ∙ sets-all l v e

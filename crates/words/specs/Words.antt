@@ -1,9 +1,10 @@
--- Words: all words are 4 bytes, high byte first. Assumes nothing.
+-- Words: all words are 4 bytes, high byte first; and bytes stored in a row. Assumes nothing.
 use Prim.Native.Nat.{ℕ, _+_, _*_, _/_, _%_}
 use mathlib.Core.Bool.{Bool}
 use mathlib.Core.List.{List, [], _∷_}
 use lib.Dec.{leb}
 use lib.ListN.{length, getD, set}
+use lib.Seq.{sets}
 use Rattle.words.specs.Choice.{pick}
 use Rattle.words.specs.Table.{table, spread}
 
@@ -42,3 +43,7 @@ wordOr0 s at = pick (inside s at) (wordAt s at) 0
 -- storing: the list with the word at a place, or as it was where the word is not all inside
 abbrev pub withWord : List ℕ → ℕ → ℕ → List ℕ
 withWord s at w = pick (inside s at) (putWord s at w) s
+
+-- storing: the list with bytes from a place on, or as it was where they are not all inside
+abbrev pub placed : List ℕ → ℕ → List ℕ → List ℕ
+placed s at bytes = pick (leb (at + length bytes) (length s)) (sets s at bytes) s

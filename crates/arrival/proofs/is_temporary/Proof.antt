@@ -1,7 +1,7 @@
 -- `is_temporary` meets its contract. Assumes nothing.
 use borrow.Author.Needs.{needs}
 use native.Mathlib.Omega.{arith}
-use Rattle.checks.proofs.Fields.{field-part}
+use Rattle.words.proofs.Fields.{field-part}
 use Rattle.arrival.specs.Arrival.{isTemporary}
 use Rattle.arrival.proofs.is_temporary.Statement.{statement}
 use Rattle.arrival.proofs.is_temporary.Tie as tie

@@ -3,7 +3,7 @@ use borrow.Author.Needs.{needs}
 use native.Mathlib.Omega.{arith}
 use borrow.Author.Tests.{eq-eqb, ne-eqb}
 use Rattle.words.specs.Choice.{pick}
-use Rattle.checks.proofs.Fields.{field-part}
+use Rattle.words.proofs.Fields.{field-part}
 use Rattle.host.specs.Reading.{judged}
 use Rattle.host.proofs.judged.Statement.{statement}
 use Rattle.host.proofs.judged.Tie as tie

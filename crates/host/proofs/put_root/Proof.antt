@@ -4,7 +4,7 @@ use native.Mathlib.Omega.{arith}
 use mathlib.Core.Path.{refl}
 use lib.ListN.{take, drop, length-drop}
 use lib.Seq.{length-take-le}
-use Rattle.checks.proofs.Fields.{field-part}
+use Rattle.words.proofs.Fields.{field-part}
 use Rattle.host.specs.Frames.{head, rootKeyFrame}
 use Rattle.host.proofs.Front.{front-three}
 use Rattle.host.proofs.put_root.Statement.{statement}
@@ -19,9 +19,9 @@ returns c =
     let signed =
     c .before .before .before .before .before .before .before .before .before .before .before .before .before .before .before .signature in
     let first =
-    c .before .before .before .before .before .before .before .before .before .before .before .before .put in
-    let second = c .before .before .before .before .before .before .before .before .put2 in
-    let third = c .before .before .put3 in
+    c .before .before .before .before .before .before .before .before .before .before .before .before .place in
+    let second = c .before .before .before .before .before .before .before .before .place2 in
+    let third = c .before .before .place3 in
     let size = start .pre .0 in
     rw (
       ← signed .ensures,

@@ -17,10 +17,10 @@ returns c =
     let a =
     c .before .before .before .before .before .before .before .before .before .before .before .before .before .before .before .before .before .before .before .before .args in
     let first =
-    c .before .before .before .before .before .before .before .before .before .before .before .before .before .before .put in
-    let second = c .before .before .before .before .before .before .before .before .before .before .put2 in
+    c .before .before .before .before .before .before .before .before .before .before .before .before .before .before .place in
+    let second = c .before .before .before .before .before .before .before .before .before .before .place2 in
     let signed = c .before .before .before .before .before .signature in
-    let third = c .before .before .put3 in
+    let third = c .before .before .place3 in
     let n = 4 + length (a .«data» .now) in
     front-signed (a .out .now) (a .key .now) (head (a .frame-type) (a .counter)) (a .«data» .now)
     (first .last .1 .1 .0) (second .last .1 .1 .0) (third .last .1 .1 .0) (signed .result) 4 n refl refl

@@ -4,12 +4,12 @@ use mathlib.Core.Path.{ap, _∙_}
 use borrow.Author.Tests.{eq-eqb, le-ltb}
 use Rattle.words.specs.Choice.{pick}
 use Rattle.hash.specs.declared.Answer.{Answer}
-use Rattle.hmac.specs.Answer.{signed}
+use Rattle.hmac.specs.Answer.{hmacAnswer}
 use Rattle.host.proofs.signature.Statement.{statement}
 use Rattle.host.proofs.signature.Tie as tie
 
 returns : tie.Need-returns
-unfolding signed pick
+unfolding hmacAnswer pick
 returns c =
     let before = c .before .before .before .before in
     let start = before in

@@ -1,7 +1,7 @@
 -- `signature_holds` meets its contract. Assumes nothing.
 use borrow.Author.Needs.{needs}
 use native.Mathlib.Omega.{arith}
-use Rattle.checks.proofs.Fields.{field-part}
+use Rattle.words.proofs.Fields.{field-part}
 use Rattle.host.specs.Reading.{signatureHolds}
 use Rattle.host.proofs.signature_holds.Statement.{statement}
 use Rattle.host.proofs.signature_holds.Tie as tie

@@ -13,15 +13,16 @@ returns c = rw (← c .before .before .slot-at .ensures .0, ← c .before .get .
 returns-2 : tie.Need-returns-2
 unfolding rootKey slotOf pick
 returns-2 c =
+    let read = c .before .before .before .before in
     rw (
-      ← c .before .before .before .slot-at .ensures .0,
-      ← c .before .before .get .ensures,
-      eq-eqb (c .before .before .get .result) 0 (c .before .if1 .left),
+      ← read .before .slot-at .ensures .0,
+      ← read .get .ensures,
+      eq-eqb (read .get .result) 0 (c .before .before .before .if1 .left),
     )
-    (c .key-at .ensures)
+    (c .before .copy .ensures)
 
 pub root-key-spec : {M : Type 1} → statement M
 root-key-spec =
     tie.close
-    (tie.spec (λ c κs. search needs) (λ c κs. search needs) returns (λ c. search needs) (λ c κs. search needs)
-    returns-2)
+    (tie.spec (λ c κs. search needs) (λ c κs. search needs) returns (λ c. search needs) (λ c. search needs)
+    (λ c κs. search needs) returns-2)

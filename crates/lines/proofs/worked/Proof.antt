@@ -1,6 +1,6 @@
 -- `worked` meets its contract: a quota above 255 is not known; else the answer is the device's. Assumes nothing.
 use borrow.Author.Needs.{needs}
-use mathlib.Core.Path.{refl, ap, _∙_}
+use mathlib.Core.Path.{ap, _∙_}
 use borrow.Author.Tests.{lt-ltb, le-ltb}
 use lib.ListN.{length}
 use Rattle.words.specs.Choice.{pick}

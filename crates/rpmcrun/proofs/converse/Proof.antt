@@ -1,4 +1,4 @@
--- `converse` is safe and ends: the turns are counted down. Assumes nothing.
+-- `converse` is safe and ends: the reads are counted down. Assumes nothing.
 use borrow.Author.Needs.{needs}
 use Prim.Native.Nat.{_≤_}
 use native.Mathlib.Omega.{arith}
@@ -8,11 +8,11 @@ use Rattle.rpmcrun.proofs.converse.Statement.{statement}
 use Rattle.rpmcrun.proofs.converse.Tie as tie
 
 abbrev Inv-loop : tie.InvT-loop
-Inv-loop image₀ out₀ chunk₀ line₀ heard₀ turns₀ image out chunk line heard turns =
+Inv-loop image₀ out₀ chunk₀ line₀ heard₀ reads₀ image out chunk line heard reads =
     (heard .kept ≤ 515) × (length chunk ≡ 65536) × (length image ≡ length image₀)
 
 abbrev μ-loop : tie.MeasureT-loop
-μ-loop image₀ out₀ chunk₀ line₀ heard₀ turns₀ image out chunk line heard turns = turns
+μ-loop image₀ out₀ chunk₀ line₀ heard₀ reads₀ image out chunk line heard reads = reads
 
 loop-holds : tie.Need-loop-holds Inv-loop μ-loop
 loop-holds c = (omega arith, sym (c .before .large-buffer .ensures), refl)

@@ -1,8 +1,8 @@
 -- `front_block` meets its contract. Assumes nothing.
 use borrow.Author.Needs.{needs}
 use native.Mathlib.Omega.{arith}
-use Rattle.checks.proofs.Fields.{field-part}
 use native.Mathlib.Nat.{sub-zero}
+use Rattle.words.proofs.Fields.{field-part}
 use Rattle.signing.proofs.front_block.Statement.{statement}
 use Rattle.signing.proofs.front_block.Tie as tie
 

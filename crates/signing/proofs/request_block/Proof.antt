@@ -1,9 +1,9 @@
 -- `request_block` meets its contract. Assumes nothing.
 use borrow.Author.Needs.{needs}
 use native.Mathlib.Omega.{arith}
-use Rattle.checks.proofs.Fields.{field-part}
 use borrow.Author.Tests.{lt-ltb, le-ltb}
 use Rattle.words.specs.Choice.{pick}
+use Rattle.words.proofs.Fields.{field-part}
 use Rattle.signing.proofs.request_block.Statement.{statement}
 use Rattle.signing.proofs.request_block.Tie as tie
 

@@ -1,19 +1,16 @@
 -- `decided` meets its contract: the job goes on only where no check fails. Assumes nothing.
 use borrow.Author.Needs.{needs}
-use mathlib.Core.Path.{ap, sym, _∙_}
-use borrow.Author.Tests.{eq-eqb, ne-eqb}
+use borrow.Author.Tests.{ne-eqb}
 use Rattle.words.specs.Choice.{pick}
-use Rattle.checks.specs.declared.Command.{Command}
-use Rattle.steps.specs.Ending.{advanced}
-use Rattle.steps.specs.Deciding.{keptAfter, withKept, decided}
-use Rattle.steps.proofs.Advancing.{last-step, another-step}
+use Rattle.steps.specs.Deciding.{withKept, decided}
+use Rattle.steps.proofs.Advancing.{last-step, another-step, passed-on}
 use Rattle.steps.proofs.decided.Statement.{statement}
 use Rattle.steps.proofs.decided.Tie as tie
 
 returns : tie.Need-returns
 unfolding decided pick
 returns c =
-    let v = c .before .before .verdict-of in
+    let v = c .before .before .decision-of in
     rw (← v .ensures, ne-eqb (v .result) 0 (c .before .if1 .taken)) (c .posted .ensures)
 
 is-last-requires : tie.Need-is-last-requires
@@ -23,23 +20,12 @@ is-last-requires c κs =
     rw (c .with-kept .ensures) (start .pre)
 
 returns-2 : tie.Need-returns-2
-unfolding decided pick
 returns-2 c =
-    let if1 = c .before .before .before .before .before .before .before .if1 in
-    let command-of = c .before .before .before .before .before .command-of in
-    let kept-after = c .before .before .before .before .kept-after in
-    let a = c .before .before .before .before .before .before .before .before .before .args in
-    let v = c .before .before .before .before .before .before .before .before .verdict-of in
-    let kept =
-    kept-after .ensures
-    ∙ ap (λ (command : Command). keptAfter command (a .s .job .kept) (a .value)) (command-of .ensures) in
-    let t = c .before .before .before .with-kept in
-    let now = t .ensures ∙ ap (withKept (a .s)) kept in
-    rw (
-      ← v .ensures,
-      eq-eqb (v .result) 0 (if1 .left),
-    )
-    (c .finished .ensures ∙ sym (last-step (t .result) (sym (c .before .before .is-last .ensures) ∙ c .before .if2 .taken)) ∙ ap advanced now)
+    let t = c .before .before .before in
+    let if1 = t .before .before .before .before in
+    passed-on _ (t .with-kept .result) _ _ _ _ _ (if1 .before .decision-of .ensures) (if1 .if1 .left)
+    (t .before .before .command-of .ensures) (t .before .kept-after .ensures) (t .with-kept .ensures)
+    (last-step (t .with-kept .result) _ _ (c .before .before .is-last .ensures) (c .before .if2 .taken) (c .finished .ensures))
 
 with-next-requires : tie.Need-with-next-requires
 unfolding withKept
@@ -48,23 +34,12 @@ with-next-requires c κs =
     rw (c .before .before .with-kept .ensures) (start .pre)
 
 returns-3 : tie.Need-returns-3
-unfolding decided pick
 returns-3 c =
-    let if1 = c .before .before .before .before .before .before .before .if1 in
-    let command-of = c .before .before .before .before .before .command-of in
-    let kept-after = c .before .before .before .before .kept-after in
-    let a = c .before .before .before .before .before .before .before .before .before .args in
-    let v = c .before .before .before .before .before .before .before .before .verdict-of in
-    let kept =
-    kept-after .ensures
-    ∙ ap (λ (command : Command). keptAfter command (a .s .job .kept) (a .value)) (command-of .ensures) in
-    let t = c .before .before .before .with-kept in
-    let now = t .ensures ∙ ap (withKept (a .s)) kept in
-    rw (
-      ← v .ensures,
-      eq-eqb (v .result) 0 (if1 .left),
-    )
-    (c .with-next .ensures ∙ sym (another-step (t .result) (sym (c .before .before .is-last .ensures) ∙ c .before .if2 .left)) ∙ ap advanced now)
+    let t = c .before .before .before in
+    let if1 = t .before .before .before .before in
+    passed-on _ (t .with-kept .result) _ _ _ _ _ (if1 .before .decision-of .ensures) (if1 .if1 .left)
+    (t .before .before .command-of .ensures) (t .before .kept-after .ensures) (t .with-kept .ensures)
+    (another-step (t .with-kept .result) _ _ (c .before .before .is-last .ensures) (c .before .if2 .left) (c .with-next .ensures))
 
 pub decided-spec : {M : Type 1} → statement M
 decided-spec =

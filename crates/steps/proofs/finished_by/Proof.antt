@@ -3,7 +3,7 @@ use borrow.Author.Needs.{needs}
 use mathlib.Core.Path.{ap, _∙_}
 use mathlib.Core.List.{_++_}
 use Rattle.words.specs.Words.{bytesOf, bytesOfAll}
-use Rattle.checks.specs.Layout.{field}
+use Rattle.words.specs.Table.{field}
 use Rattle.state.specs.declared.State.{State}
 use Rattle.steps.specs.Ending.{withKey, withReply}
 use Rattle.steps.proofs.finished_by.Statement.{statement}

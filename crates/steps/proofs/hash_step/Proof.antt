@@ -1,12 +1,11 @@
 -- `hash_step` meets its contract: the checks in the last step of the signature check. Assumes nothing.
 use borrow.Author.Needs.{needs}
 use Prim.Native.Nat.{_+_}
-use mathlib.Core.Path.{sym, _∙_}
-use borrow.Author.Tests.{eq-eqb, ne-eqb}
+use borrow.Author.Tests.{eq-eqb}
 use Rattle.words.specs.Choice.{pick}
 use Rattle.signing.specs.Hashed.{withBlock, hashed}
 use Rattle.steps.specs.Deciding.{hashStep}
-use Rattle.steps.proofs.Advancing.{last-step, another-step}
+use Rattle.steps.proofs.Advancing.{last-step, another-step, hashed-on}
 use Rattle.steps.proofs.hash_step.Statement.{statement}
 use Rattle.steps.proofs.hash_step.Tie as tie
 
@@ -42,21 +41,11 @@ is-last-requires c κs =
     rw (hashed-call .ensures) (start .pre)
 
 returns-2 : tie.Need-returns-2
-unfolding hashStep pick
 returns-2 c =
-    let a = c .before .before .before .before .before .before .before .before .before .before .args in
-    let command-of = c .before .before .before .before .before .command-of in
-    let if1 = c .before .before .before .if1 in
-    let last = c .before .before .before .before .signature-steps in
-    let job = a .s .job in
-    let t = c .before .before .before .before .before .before .before .before .hashed in
-    rw (
-      ← t .ensures,
-      ← command-of .ensures,
-      ← last .ensures,
-      ne-eqb (job .step + 1) (last .result) (if1 .left),
-    )
-    (c .finished .ensures ∙ sym (last-step (t .result) (sym (c .before .before .is-last .ensures) ∙ c .before .if2 .taken)))
+    let if1 = c .before .before .before in
+    let t = if1 .before .before .before .before .before .hashed in
+    hashed-on _ _ (t .result) _ _ _ (t .ensures) (if1 .before .before .command-of .ensures) (if1 .before .signature-steps .ensures)
+    (if1 .if1 .left) (last-step (t .result) _ _ (c .before .before .is-last .ensures) (c .before .if2 .taken) (c .finished .ensures))
 
 with-next-requires : tie.Need-with-next-requires
 unfolding hashed withBlock
@@ -66,21 +55,11 @@ with-next-requires c κs =
     rw (hashed-call .ensures) (start .pre)
 
 returns-3 : tie.Need-returns-3
-unfolding hashStep pick
 returns-3 c =
-    let a = c .before .before .before .before .before .before .before .before .before .before .args in
-    let command-of = c .before .before .before .before .before .command-of in
-    let if1 = c .before .before .before .if1 in
-    let last = c .before .before .before .before .signature-steps in
-    let job = a .s .job in
-    let t = c .before .before .before .before .before .before .before .before .hashed in
-    rw (
-      ← t .ensures,
-      ← command-of .ensures,
-      ← last .ensures,
-      ne-eqb (job .step + 1) (last .result) (if1 .left),
-    )
-    (c .with-next .ensures ∙ sym (another-step (t .result) (sym (c .before .before .is-last .ensures) ∙ c .before .if2 .left)))
+    let if1 = c .before .before .before in
+    let t = if1 .before .before .before .before .before .hashed in
+    hashed-on _ _ (t .result) _ _ _ (t .ensures) (if1 .before .before .command-of .ensures) (if1 .before .signature-steps .ensures)
+    (if1 .if1 .left) (another-step (t .result) _ _ (c .before .before .is-last .ensures) (c .before .if2 .left) (c .with-next .ensures))
 
 pub hash-step-spec : {M : Type 1} → statement M
 hash-step-spec =

@@ -5,7 +5,7 @@ use mathlib.Core.Bool.{true, false}
 use native.Mathlib.Omega.{arith}
 use borrow.Author.Tests.{lt-ltb, le-ltb}
 use Rattle.words.specs.Choice.{pick}
-use Rattle.checks.specs.Jobs.{commandOf, hashSteps}
+use Rattle.jobs.specs.Jobs.{commandOf, hashSteps}
 use Rattle.state.specs.Refusal.{isRunning}
 use Rattle.state.proofs.Running.{at-most-15, step-left}
 use Rattle.steps.specs.Step.{isHash, stepState, stepImage}

@@ -1,6 +1,5 @@
 -- `store_step` meets its contract: the word that the plan names. Assumes nothing.
 use borrow.Author.Needs.{needs}
-use mathlib.Core.Path.{sym, _∙_}
 use Rattle.steps.proofs.Advancing.{last-step, another-step}
 use Rattle.steps.proofs.store_step.Statement.{statement}
 use Rattle.steps.proofs.store_step.Tie as tie
@@ -12,30 +11,22 @@ sub-i c =
 
 returns : tie.Need-returns
 returns c =
-    let a =
-    c .before .before .before .before .before .before .before .before .before .before .before .before .before .before .args in
-    let command-of = c .before .before .before .before .before .before .before .before .before .before .command-of in
-    let hash-steps = c .before .before .before .before .before .before .before .before .before .hash-steps in
-    let store-of = c .before .before .before .before .before .before .before .store-of in
-    let put-store = c .before .before .before .before .before .put-store in
-    let s = a .s in
-    let step = sym (last-step (s) (sym (c .before .before .is-last .ensures) ∙ c .before .if1 .taken)) in (
-      c .finished .ensures ∙ step,
-      rw (← command-of .ensures, ← hash-steps .ensures, ← store-of .ensures) (put-store .ensures),
+    let put = c .before .before .before .before in
+    let store-of = put .before .before .before in
+    let command-of = store-of .before .before .before .command-of in
+    let hash-steps = store-of .before .before .hash-steps in (
+      last-step _ _ _ (c .before .before .is-last .ensures) (c .before .if1 .taken) (c .finished .ensures),
+      rw (← command-of .ensures, ← hash-steps .ensures, ← store-of .store-of .ensures) (put .before .put-store .ensures),
     )
 
 returns-2 : tie.Need-returns-2
 returns-2 c =
-    let a =
-    c .before .before .before .before .before .before .before .before .before .before .before .before .before .before .args in
-    let command-of = c .before .before .before .before .before .before .before .before .before .before .command-of in
-    let hash-steps = c .before .before .before .before .before .before .before .before .before .hash-steps in
-    let store-of = c .before .before .before .before .before .before .before .store-of in
-    let put-store = c .before .before .before .before .before .put-store in
-    let s = a .s in
-    let step = sym (another-step (s) (sym (c .before .before .is-last .ensures) ∙ c .before .if1 .left)) in (
-      c .with-next .ensures ∙ step,
-      rw (← command-of .ensures, ← hash-steps .ensures, ← store-of .ensures) (put-store .ensures),
+    let put = c .before .before .before .before in
+    let store-of = put .before .before .before in
+    let command-of = store-of .before .before .before .command-of in
+    let hash-steps = store-of .before .before .hash-steps in (
+      another-step _ _ _ (c .before .before .is-last .ensures) (c .before .if1 .left) (c .with-next .ensures),
+      rw (← command-of .ensures, ← hash-steps .ensures, ← store-of .store-of .ensures) (put .before .put-store .ensures),
     )
 
 pub store-step-spec : {M : Type 1} → statement M

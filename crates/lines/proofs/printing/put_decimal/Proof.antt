@@ -2,7 +2,6 @@
 use borrow.Author.Needs.{needs}
 use native.Mathlib.Omega.{arith}
 use borrow.Author.Tests.{lt-ltb, le-ltb}
-use mathlib.Core.Path.{_≡_, refl, _∙_}
 use Rattle.words.specs.Choice.{pick}
 use Rattle.lines.specs.Printing.{decimal}
 use Rattle.lines.proofs.printing.put_decimal.Statement.{statement}

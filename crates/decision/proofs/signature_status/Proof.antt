@@ -1,0 +1,18 @@
+-- `signature_status` meets its contract. Assumes nothing.
+use borrow.Author.Needs.{needs}
+use Rattle.words.specs.Choice.{pick}
+use Rattle.decision.specs.Signature.{signatureStatus}
+use Rattle.decision.proofs.signature_status.Statement.{statement}
+use Rattle.decision.proofs.signature_status.Tie as tie
+
+returns : tie.Need-returns
+unfolding signatureStatus pick
+returns c = rw (← c .before .signature-holds .ensures, c .if1 .taken)
+
+returns-2 : tie.Need-returns-2
+unfolding signatureStatus pick
+returns-2 c = rw (← c .before .before .signature-holds .ensures, c .before .if1 .left) (c .bad-signature .ensures)
+
+pub signature-status-spec : {M : Type 1} → statement M
+signature-status-spec =
+    tie.close (tie.spec (λ c κs. search needs) returns (λ c κs. search needs) returns-2)

@@ -1,0 +1,2 @@
+-- That each public function has one answer only.
+pub mod OneAnswer

@@ -1,0 +1,2 @@
+-- The kinds of job.
+pub mod Jobs

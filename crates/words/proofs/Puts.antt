@@ -1,0 +1,105 @@
+-- What a stored word changes of a field: inside it these four bytes, outside nothing; and it leaves the words before it. Assumes
+-- nothing.
+use Prim.Native.Nat.{ℕ, _+_, _/_, _%_, _≤_, _<_}
+use mathlib.Core.Path.{_≡_, refl, sym, _∙_}
+use mathlib.Core.Logic.{⊎-elim, _⊎_}
+use mathlib.Core.Bool.{Bool, true, false}
+use mathlib.Core.List.{List}
+use native.Mathlib.Omega.{arith}
+use borrow.Author.Tests.{eqb-true, eqb-false}
+use lib.Dec.{eqb}
+use lib.ListN.{length, getD, set, length-set}
+use lib.Seq.{ext-getD, getD-set-same, getD-set-other}
+use Rattle.words.specs.Table.{field}
+use Rattle.words.specs.Words.{wordOr0, putWord}
+use Rattle.words.proofs.Table.{length-table, table-same, getD-table}
+
+-- one byte of a field after a byte is stored inside it
+byte-set-in :
+    (p n k v : ℕ) (l : List ℕ) → k < n → p + n ≤ length l → (i : ℕ) → i < n → (b : Bool) → eqb i k ≡ b →
+    getD (set l (p + k) v) (p + i) 0 ≡ getD (set (field p n l) k v) i 0
+byte-set-in p n k v l hk hp i h true e =
+    rw (eqb-true i k e)
+    (getD-set-same l (p + k) v 0 (omega arith)
+    ∙ sym (getD-set-same (field p n l) k v 0 (omega (arith, length-table (λ j. getD l (p + j) 0) n))))
+byte-set-in p n k v l hk hp i h false e =
+    let apart = eqb-false i k e in
+    getD-set-other l (p + k) (p + i) v 0 (λ same. apart (omega (arith, same)))
+    ∙ sym (getD-table (λ j. getD l (p + j) 0) n i 0 h) ∙ sym (getD-set-other (field p n l) k i v 0 apart)
+
+-- a field after one byte is stored inside it, or outside
+field-set-in :
+    (p n k v : ℕ) (l : List ℕ) → k < n → p + n ≤ length l → field p n (set l (p + k) v) ≡ set (field p n l) k v
+field-set-in p n k v l hk hp =
+    let size = length-table (λ j. getD (set l (p + k) v) (p + j) 0) n in
+    ext-getD 0 _ _ (size ∙ sym (length-set (field p n l) k v ∙ length-table _ n))
+    (λ i h.
+    let inside : i < n = omega (arith, size) in
+    getD-table (λ j. getD (set l (p + k) v) (p + j) 0) n i 0 inside ∙ byte-set-in p n k v l hk hp i inside _ refl)
+
+field-set-out :
+    (p n j v : ℕ) (l : List ℕ) → ((i : ℕ) → i < n → p + i ≡ j → ⊥) → field p n (set l j v) ≡ field p n l
+field-set-out p n j v l apart = table-same _ _ n (λ i h. getD-set-other l j (p + i) v 0 (apart i h))
+
+-- a field after a word is stored inside it, or outside
+pub field-put-in :
+    (p n k w : ℕ) (l : List ℕ) → k + 4 ≤ n → p + n ≤ length l → field p n (putWord l (p + k) w) ≡ putWord (field p n l) k w
+unfolding putWord
+field-put-in p n k w l hk hp =
+    let l₁ = set l (p + k) (w / 16777216) in
+    let l₂ = set l₁ (p + (k + 1)) (w / 65536 % 256) in
+    let l₃ = set l₂ (p + (k + 2)) (w / 256 % 256) in
+    let size₁ = length-set l (p + k) (w / 16777216) in
+    let size₂ = length-set l₁ (p + (k + 1)) (w / 65536 % 256) in
+    let size₃ = length-set l₂ (p + (k + 2)) (w / 256 % 256) in
+    let e₁ : p + k + 1 ≡ p + (k + 1) = omega arith in
+    let e₂ : p + k + 2 ≡ p + (k + 2) = omega arith in
+    let e₃ : p + k + 3 ≡ p + (k + 3) = omega arith in
+    rw (
+      e₁,
+      e₂,
+      e₃,
+      field-set-in p n (k + 3) (w % 256) l₃ (omega arith) (omega (arith, size₁, size₂, size₃)),
+      field-set-in p n (k + 2) (w / 256 % 256) l₂ (omega arith) (omega (arith, size₁, size₂)),
+      field-set-in p n (k + 1) (w / 65536 % 256) l₁ (omega arith) (omega (arith, size₁)),
+      field-set-in p n k (w / 16777216) l (omega arith) hp,
+    )
+
+pub field-put-out : (p n j w : ℕ) (l : List ℕ) → (j + 4 ≤ p) ⊎ (p + n ≤ j) → field p n (putWord l j w) ≡ field p n l
+unfolding putWord
+field-put-out p n j w l apart =
+    let l₁ = set l j (w / 16777216) in
+    let l₂ = set l₁ (j + 1) (w / 65536 % 256) in
+    let l₃ = set l₂ (j + 2) (w / 256 % 256) in
+    field-set-out p n (j + 3) (w % 256) l₃ (away 3 (omega arith))
+    ∙ field-set-out p n (j + 2) (w / 256 % 256) l₂ (away 2 (omega arith))
+    ∙ field-set-out p n (j + 1) (w / 65536 % 256) l₁ (away 1 (omega arith))
+    ∙ field-set-out p n j (w / 16777216) l (λ i h e. away 0 (omega arith) i h (omega (arith, e)))
+  where
+    away : (m : ℕ) → m < 4 → (i : ℕ) → i < n → p + i ≡ j + m → ⊥
+    away m hm i h e = ⊎-elim (λ (below : j + 4 ≤ p). omega arith) (λ (above : p + n ≤ j). omega arith) apart
+
+pub length-put : (l : List ℕ) (j w : ℕ) → length (putWord l j w) ≡ length l
+unfolding putWord
+length-put l j w = simp length-set
+
+-- a byte and a word before a store
+byte-kept : (l : List ℕ) (j w i : ℕ) → i < j → getD (putWord l j w) i 0 ≡ getD l i 0
+unfolding putWord
+byte-kept l j w i h =
+    rw (
+      getD-set-other (set (set (set l j (w / 16777216)) (j + 1) (w / 65536 % 256)) (j + 2) (w / 256 % 256)) (j + 3) i (w % 256) 0 (λ e. omega (arith, e)),
+      getD-set-other (set (set l j (w / 16777216)) (j + 1) (w / 65536 % 256)) (j + 2) i (w / 256 % 256) 0 (λ e. omega (arith, e)),
+      getD-set-other (set l j (w / 16777216)) (j + 1) i (w / 65536 % 256) 0 (λ e. omega (arith, e)),
+      getD-set-other l j i (w / 16777216) 0 (λ e. omega (arith, e)),
+    )
+
+pub word-kept : (l : List ℕ) (k j w : ℕ) → k + 4 ≤ j → wordOr0 (putWord l j w) k ≡ wordOr0 l k
+word-kept l k j w h =
+    rw (
+      length-put l j w,
+      byte-kept l j w k (omega arith),
+      byte-kept l j w (k + 1) (omega arith),
+      byte-kept l j w (k + 2) (omega arith),
+      byte-kept l j w (k + 3) (omega arith),
+    )
