@@ -1,11 +1,11 @@
 -- Document 01, "Refusal numbers": host build checks 5, 6, 7. A built frame fills the front of the output; the rest stays.
 -- Assumes nothing.
-use Prim.Native.Nat.{ℕ}
+use Prim.Native.Nat.{ℕ, _+_}
 use mathlib.Core.List.{List, _++_}
 use lib.Dec.{ltb, eqb}
 use lib.ListN.{length, drop}
 use Rattle.words.specs.Choice.{pick}
-use Rattle.host.specs.Frames.{sessionKey, rootKeyFrame, sessionKeyFrame, incrementFrame, requestFrame}
+use Rattle.host.specs.Frames.{head, signedBy, sessionKey, rootKeyFrame, sessionKeyFrame, incrementFrame, requestFrame}
 
 -- 5: counter number above 3. 6: a key not 32 bytes, tag not 12, other data not 4. 7: output shorter than the frame
 unfoldable pub buildRefusal : ℕ → ℕ → ℕ → ℕ → ℕ → ℕ → ℕ
@@ -29,6 +29,13 @@ pub record Built : Type 0 where
 -- a refused call leaves the output as found
 abbrev pub built : ℕ → List ℕ → List ℕ → Built
 built number filled output = record { number = number; output = pick (eqb number 0) filled output }
+
+-- a frame of a head, n bytes of data, and the signature of both
+abbrev pub builtSigned : ℕ → ℕ → List ℕ → List ℕ → ℕ → List ℕ → Built
+builtSigned type counter key bytes n output =
+    built (buildRefusal counter (length key) (length bytes) n (length output) (36 + n))
+    (withFront (signedBy key (head type counter ++ bytes)) output)
+    output
 
 -- builders of types 00 and 01 take the root key, the others the session key
 abbrev pub builtRootKey : ℕ → List ℕ → List ℕ → Built

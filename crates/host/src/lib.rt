@@ -5,10 +5,11 @@ ghost use mathlib.Core.Path.{_≡_};
 ghost use Prim.Native.Nat.{_+_, _≤_};
 ghost use mathlib.Core.List.{_++_};
 ghost use lib.ListN.{length};
+ghost use Rattle.words.specs.Choice.{pick};
 ghost use Rattle.hmac.specs.Hmac.{HMAC};
 ghost use Rattle.host.specs.Frames.{head, signedBy, rootKeyFrame};
 ghost use Rattle.host.specs.Reading.{signatureHolds, judged, readReply, partOf};
-ghost use Rattle.host.specs.Building.{buildRefusal, withFront, builtRootKey, builtSessionKey, builtIncrement, builtRequest, derivedKey};
+ghost use Rattle.host.specs.Building.{buildRefusal, withFront, builtSigned, builtRootKey, builtSessionKey, builtIncrement, builtRequest, derivedKey};
 
 // Refusals 5, 6 and 7, in this order.
 fn build_refusal(
@@ -59,28 +60,38 @@ fn put_signed(key: &[u8], frame_type: u8, counter: u8, data: &[u8], out: &mut [u
     words::place(&signed, n, out);
 }
 
+// Builds a frame of a head, n bytes of data, and their signature.
+fn build_signed(
+    frame_type: u8,
+    counter: u32,
+    key: &[u8],
+    data: &[u8],
+    n: usize,
+    out: &mut [u8],
+) -> u32
+    requires { ⌜ n ≤ 12 ⌝ }
+    ensures { λ r. ⌜ (r ≡ builtSigned «frame_type» counter (now (key .entry)) (now («data» .entry)) n (now (out .entry)) .number) × (now (out .exit) ≡ builtSigned «frame_type» counter (now (key .entry)) (now («data» .entry)) n (now (out .entry)) .output) ⌝ }
+{
+    let number = build_refusal(counter, key.len(), data.len(), n, out.len(), 36 + n);
+    if number != 0 {
+        return number;
+    }
+    put_signed(key, frame_type, counter as u8, data, out);
+    0
+}
+
 // Builds an increment frame, type 02, of the counter data, under the session key.
 pub fn build_increment(counter: u32, key: &[u8], value: &[u8], out: &mut [u8]) -> u32
     ensures { λ r. ⌜ (r ≡ builtIncrement counter (now (key .entry)) (now (value .entry)) (now (out .entry)) .number) × (now (out .exit) ≡ builtIncrement counter (now (key .entry)) (now (value .entry)) (now (out .entry)) .output) ⌝ }
 {
-    let number = build_refusal(counter, key.len(), value.len(), 4, out.len(), 40);
-    if number != 0 {
-        return number;
-    }
-    put_signed(key, 2, counter as u8, value, out);
-    0
+    build_signed(2, counter, key, value, 4, out)
 }
 
 // Builds a request frame, type 03, of a tag, under the session key.
 pub fn build_request(counter: u32, key: &[u8], tag: &[u8], out: &mut [u8]) -> u32
     ensures { λ r. ⌜ (r ≡ builtRequest counter (now (key .entry)) (now (tag .entry)) (now (out .entry)) .number) × (now (out .exit) ≡ builtRequest counter (now (key .entry)) (now (tag .entry)) (now (out .entry)) .output) ⌝ }
 {
-    let number = build_refusal(counter, key.len(), tag.len(), 12, out.len(), 48);
-    if number != 0 {
-        return number;
-    }
-    put_signed(key, 3, counter as u8, tag, out);
-    0
+    build_signed(3, counter, key, tag, 12, out)
 }
 
 // Builds a session key frame, type 01, of the key data: the root key gives the new session key, which signs it.
@@ -152,6 +163,17 @@ fn signature_holds(key: &[u8], reply: &[u8]) -> bool
     compare::same(&reply[17..49], &signed)
 }
 
+// The verdict on a reply with the right tag, by its signature.
+fn by_signature(key: &[u8], reply: &[u8]) -> Verdict
+    requires { ⌜ (length (now key) ≡ 32) × (length (now reply) ≡ 49) ⌝ }
+    ensures { λ r. ⌜ r ≡ pick (signatureHolds (now (key .entry)) (now (reply .entry))) Verdict.Good Verdict.WrongSignature ⌝ }
+{
+    if !signature_holds(key, reply) {
+        return Verdict::WrongSignature;
+    }
+    Verdict::Good
+}
+
 // The verdict on a reply, of arguments of the right lengths.
 fn judged(key: &[u8], tag: &[u8], reply: &[u8]) -> Verdict
     requires { ⌜ (length (now key) ≡ 32) × (length (now reply) ≡ 49) ⌝ }
@@ -165,10 +187,7 @@ fn judged(key: &[u8], tag: &[u8], reply: &[u8]) -> Verdict
         return Verdict::Failed(status);
     }
     if compare::same(&reply[1..13], tag) {
-        if signature_holds(key, reply) {
-            return Verdict::Good;
-        }
-        return Verdict::WrongSignature;
+        return by_signature(key, reply);
     }
     Verdict::WrongTag
 }

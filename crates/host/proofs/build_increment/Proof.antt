@@ -1,32 +1,12 @@
--- `build_increment` meets its contract: a refused call leaves the output. Assumes nothing.
+-- `build_increment` meets its contract. Assumes nothing.
 use borrow.Author.Needs.{needs}
-use mathlib.Core.Path.{sym, _∙_}
-use native.Mathlib.Omega.{arith}
 use Rattle.host.specs.Frames.{incrementFrame}
-use Rattle.host.proofs.Accepted.{accepted, left-as-found, filled-as-built}
 use Rattle.host.proofs.build_increment.Statement.{statement}
 use Rattle.host.proofs.build_increment.Tie as tie
 
 returns : tie.Need-returns
-returns c = left-as-found _ _ _ _ (c .before .build-refusal .ensures) (c .if1 .taken)
-
-cast-put-signed : tie.Need-cast-put-signed
-cast-put-signed c =
-    let was = accepted _ _ _ _ _ _ (sym (c .before .build-refusal .ensures) ∙ c .if1 .left) in
-    omega (arith, was .0)
-
-put-signed-requires : tie.Need-put-signed-requires
-put-signed-requires c κs =
-    let was = accepted _ _ _ _ _ _ (sym (c .before .before .build-refusal .ensures) ∙ c .before .if1 .left) in
-    (was .1, omega (arith, was .2), omega (arith, was .2, was .3))
-
-returns-2 : tie.Need-returns-2
 unfolding incrementFrame
-returns-2 c =
-    let n = c .before .before .before .before .before .build-refusal in
-    filled-as-built _ _ _ _ _ (n .ensures) (c .before .before .before .before .if1 .left) (c .before .before .put-signed .ensures)
+returns c = c .before .before .build-signed .ensures
 
 pub build-increment-spec : {M : Type 1} → statement M
-build-increment-spec =
-    tie.close
-    (tie.spec (λ c κs. search needs) returns cast-put-signed put-signed-requires (λ c. search needs) returns-2)
+build-increment-spec = tie.close (tie.spec (λ c κs. search needs) (λ c. search needs) returns)

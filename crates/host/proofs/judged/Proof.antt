@@ -19,51 +19,26 @@ returns-2 c = simp (ne-eqb _ _ (c .before .if1 .left), ne-eqb _ _ (c .if2 .taken
 returns-3 : tie.Need-returns-3
 unfolding judged pick
 returns-3 c =
-    let before = c .before .before .before .before .before .before .before .before .before .before .before in
-    let if1 = c .before .before .before .before .before .before .if1 in
-    let if2 = c .before .before .before .before .before .if2 in
-    let same = c .before .before .before .same in
-    let start = before in
-    let reply = start .args .reply .now in
+    let if1 = c .before .before .before .before .before .if1 in
+    let if2 = c .before .before .before .before .if2 in
+    let start = c .before .before .before .before .before .before .before .before .before .before in
     rw (
-      ← field-part 1 12 reply (omega (arith, start .pre .1)),
-      ← same .ensures,
-      c .before .before .if3 .taken,
-      ← c .before .signature-holds .ensures,
-      c .if4 .taken,
+      ← field-part 1 12 (start .args .reply .now) (omega (arith, start .pre .1)),
+      ← c .before .before .same .ensures,
+      c .before .if3 .taken,
       ne-eqb _ _ (if1 .left),
       eq-eqb _ _ (if2 .left),
     )
+    (c .by-signature .ensures)
 
 returns-4 : tie.Need-returns-4
 unfolding judged pick
 returns-4 c =
-    let before = c .before .before .before .before .before .before .before .before .before .before .before in
-    let if1 = c .before .before .before .before .before .before .if1 in
-    let if2 = c .before .before .before .before .before .if2 in
-    let same = c .before .before .before .same in
-    let start = before in
-    let reply = start .args .reply .now in
-    rw (
-      ← field-part 1 12 reply (omega (arith, start .pre .1)),
-      ← same .ensures,
-      c .before .before .if3 .taken,
-      ← c .before .signature-holds .ensures,
-      c .if4 .left,
-      ne-eqb _ _ (if1 .left),
-      eq-eqb _ _ (if2 .left),
-    )
-
-returns-5 : tie.Need-returns-5
-unfolding judged pick
-returns-5 c =
-    let before = c .before .before .before .before .before .before .before .before .before in
     let if1 = c .before .before .before .before .if1 in
     let if2 = c .before .before .before .if2 in
-    let start = before in
-    let reply = start .args .reply .now in
+    let start = c .before .before .before .before .before .before .before .before .before in
     rw (
-      ← field-part 1 12 reply (omega (arith, start .pre .1)),
+      ← field-part 1 12 (start .args .reply .now) (omega (arith, start .pre .1)),
       ← c .before .same .ensures,
       c .if3 .left,
       ne-eqb _ _ (if1 .left),
@@ -74,4 +49,4 @@ pub judged-spec : {M : Type 1} → statement M
 judged-spec =
     tie.close
     (tie.spec (λ c. search needs) returns returns-2 (λ c. search needs) (λ c. search needs) (λ c. search needs)
-    (λ c κs. search needs) (λ c κs. search needs) returns-3 returns-4 returns-5)
+    (λ c κs. search needs) (λ c κs. search needs) returns-3 returns-4)
