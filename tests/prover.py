@@ -21,6 +21,7 @@ UNFIT = (
     "that can be named from here",
     "expected type `tie.Need-",
     "needs a function (or path) type to bind",
+    "this λ has",
     "is not in scope",
     "has no field",
 )

@@ -1,7 +1,8 @@
 -- A frame that the host builds with the right keys passes the device's signature check, of each type and every counter.
 -- Assumes nothing.
-use Prim.Native.Nat.{ℕ}
+use Prim.Native.Nat.{ℕ, _+_, _≤_}
 use mathlib.Core.Path.{_≡_, refl, _∙_}
+use mathlib.Core.Bool.{true}
 use mathlib.Core.List.{List, [], _++_}
 use native.Mathlib.Omega.{arith}
 use lib.ListN.{length}
@@ -9,6 +10,7 @@ use Rattle.words.specs.Choice.{pick}
 use Rattle.words.proofs.Table.{length-table}
 use Rattle.words.specs.Table.{field}
 use Rattle.words.proofs.Fields.{field-between, field-behind}
+use Rattle.compare.specs.Compare.{sameBytes}
 use Rattle.compare.proofs.Agree.{same-self}
 use Rattle.hmac.specs.Hmac.{HMAC}
 use Rattle.jobs.specs.declared.Command.{Command}
@@ -18,7 +20,7 @@ use Rattle.decision.specs.Signature.{signatureHolds, signatureStatus}
 use Rattle.arrival.specs.Arrival.{frameKept}
 use Rattle.device.specs.Work.{Device}
 use Rattle.rules.specs.Whole.{keyThere, signature}
-use Rattle.host.specs.Frames.{head, sessionKey, rootKeyFrame, sessionKeyFrame, incrementFrame, requestFrame}
+use Rattle.host.specs.Frames.{head, signedBy, sessionKey, rootKeyFrame, sessionKeyFrame, incrementFrame, requestFrame}
 use Rattle.ends.proofs.Fields.{kept-field, counter-sent, front-sent, data-sent, signature-sent}
 
 -- check 8 of a frame that has this signature
@@ -40,6 +42,18 @@ root-key-passes d counter key size =
     ∙ field-behind 36 28 (head 0 counter ++ key) (field 4 28 digest) (omega (arith, size)) (length-table _ 28) in
     rw (key-sent, front, signed, same-self (field 4 28 digest))
 
+-- types 01 to 03: the signature that is sent is that of what stands before it
+same-sent :
+    (key : List ℕ) (type counter : ℕ) (bytes : List ℕ) (n : ℕ) → length bytes ≡ n → n ≤ 28 →
+    sameBytes (HMAC key (field 0 (4 + n) (frameKept (signedBy key (head type counter ++ bytes)))))
+    (field (4 + n) 32 (frameKept (signedBy key (head type counter ++ bytes)))) ≡ true
+same-sent key type counter bytes n size fits =
+    rw (
+      front-sent key type counter bytes n size fits,
+      signature-sent key type counter bytes n size fits,
+    )
+    (same-self (HMAC key (head type counter ++ bytes)))
+
 -- type 01, built with the root key in use
 pub session-key-passes :
     (d : Device) (counter : ℕ) (keyData : List ℕ) → length keyData ≡ 4 →
@@ -50,9 +64,7 @@ session-key-passes d counter keyData size =
     rw (
       counter-sent key 1 counter keyData 4 size (omega arith),
       data-sent key 1 counter keyData 4 size (omega arith),
-      front-sent key 1 counter keyData 4 size (omega arith),
-      signature-sent key 1 counter keyData 4 size (omega arith),
-      same-self (HMAC key (head 1 counter ++ keyData)),
+      same-sent key 1 counter keyData 4 size (omega arith),
     )
 
 -- types 02 and 03, built with the counter's session key
@@ -61,21 +73,11 @@ pub increment-passes :
     keyThere d (incrementFrame counter key value) ≡ key → Passes IncrementCounter d (incrementFrame counter key value)
 unfolding signatureStatus signatureHolds incrementFrame pick
 increment-passes d counter key value size same =
-    rw (
-      same,
-      front-sent key 2 counter value 4 size (omega arith),
-      signature-sent key 2 counter value 4 size (omega arith),
-      same-self (HMAC key (head 2 counter ++ value)),
-    )
+    rw (same, same-sent key 2 counter value 4 size (omega arith))
 
 pub request-passes :
     (d : Device) (counter : ℕ) (key tag : List ℕ) → length tag ≡ 12 →
     keyThere d (requestFrame counter key tag) ≡ key → Passes RequestCounter d (requestFrame counter key tag)
 unfolding signatureStatus signatureHolds requestFrame pick
 request-passes d counter key tag size same =
-    rw (
-      same,
-      front-sent key 3 counter tag 12 size (omega arith),
-      signature-sent key 3 counter tag 12 size (omega arith),
-      same-self (HMAC key (head 3 counter ++ tag)),
-    )
+    rw (same, same-sent key 3 counter tag 12 size (omega arith))
