@@ -1,11 +1,7 @@
 -- One answer only, for each public function of this crate. Assumes nothing.
 use mathlib.Core.Path.{sym, _∙_}
 use Rattle.words.proofs.Unique.{OneResult}
-use Rattle.checks.proofs.shape_status.Reads as shape-status-reads
 use Rattle.checks.proofs.arrival_status.Reads as arrival-status-reads
-
-shape-status-one : OneResult shape-status-reads.Post
-shape-status-one κs a x y s t p q = p ∙ sym q
 
 arrival-status-one : OneResult arrival-status-reads.Post
 arrival-status-one κs a x y s t p q = p ∙ sym q

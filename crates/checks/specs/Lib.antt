@@ -1,3 +1,2 @@
--- What a taken OP1 frame meets on arrival: its layout, and checks 1 to 7.
-pub mod Layout
+-- What a taken OP1 frame meets on arrival: checks 1 to 7.
 pub mod Checks

@@ -1,101 +1,106 @@
 // What a taken OP1 frame meets on arrival: checks 1 to 7.
 //
-// Contracts cite specs/, a section of document 01 to a file. A status of 0 says that no check failed.
+// Contracts cite specs/, document 01's list as a table. A status of 0 says that no check failed.
 ghost use mathlib.Core.Path.{_≡_};
-ghost use Rattle.checks.specs.Layout.{frameLength};
-ghost use Rattle.checks.specs.Checks.{shapeStatus, counterStatus, stateStatus, slotStatus, arrivalStatus};
+ghost use Prim.Native.Nat.{_≤_};
+ghost use Rattle.words.specs.Rows.{firstFailing};
+ghost use Rattle.frames.specs.Layout.{layoutOf};
+ghost use Rattle.checks.specs.Checks.{wrongState, notReady, arrivalChecks, arrivalStatus};
 use image::Slot;
 
 // The length of a frame, by its type.
 fn frame_length(frame_type: u8) -> usize
-    ensures { λ r. ⌜ r ≡ frameLength «frame_type» ⌝ }
+    requires { ⌜ «frame_type» ≤ 3 ⌝ }
+    ensures { λ r. ⌜ r ≡ layoutOf «frame_type» .size ⌝ }
 {
     if frame_type == 0 {
         return 64;
     }
-    if frame_type == 3 {
-        return 48;
+    if frame_type == 1 {
+        return 40;
     }
-    40
+    if frame_type == 2 {
+        return 40;
+    }
+    48
 }
 
-// Checks 1 to 3.
-pub fn shape_status(frame: &[u8]) -> u8
-    ensures { λ r. ⌜ r ≡ shapeStatus (now (frame .entry)) ⌝ }
+// Whether check 6 fails: a root key frame on a set root, or a session key frame on an unset counter.
+fn wrong_state(frame_type: u8, slot: Slot) -> bool
+    ensures { λ r. ⌜ r ≡ wrongState «frame_type» slot ⌝ }
 {
-    let frame_type = words::byte(frame, 1);
+    if frame_type == 0 {
+        return slot.root == 0;
+    }
+    if frame_type == 1 {
+        return slot.counter != 0;
+    }
+    false
+}
+
+// Whether check 7 fails: an increment or a request on an unset counter, or without a session key.
+fn not_ready(frame_type: u8, slot: Slot, has_key: bool) -> bool
+    ensures { λ r. ⌜ r ≡ notReady «frame_type» slot «has_key» ⌝ }
+{
+    if frame_type <= 1 {
+        return false;
+    }
+    if slot.counter != 0 {
+        return true;
+    }
+    !has_key
+}
+
+// Checks 1 to 7, of the bytes of a frame's head, its length, the image's count, the counter's slot, and whether it has a session key.
+fn status_of(
+    frame_type: u8,
+    size: usize,
+    reserved: u8,
+    counter: u8,
+    count: u32,
+    slot: Slot,
+    has_key: bool,
+) -> u8
+    ensures { λ r. ⌜ r ≡ firstFailing (arrivalChecks «frame_type» size reserved counter count slot «has_key») ⌝ }
+{
     if 3 < frame_type {
         return 0x04;
     }
-    if frame.len() != frame_length(frame_type) {
+    if size != frame_length(frame_type) {
         return 0x04;
     }
-    if words::byte(frame, 3) != 0 {
+    if reserved != 0 {
         return 0x04;
     }
-    0
-}
-
-// Check 4.
-fn counter_status(frame_type: u8, counter: u8, count: u32) -> u8
-    ensures { λ r. ⌜ r ≡ counterStatus «frame_type» counter count ⌝ }
-{
-    if (counter as u32) < count {
-        return 0;
-    }
-    if frame_type == 0 {
-        return 0x06;
-    }
-    0x04
-}
-
-// Checks 6 and 7.
-fn state_status(frame_type: u8, root: u32, counter: u32, has_key: bool) -> u8
-    ensures { λ r. ⌜ r ≡ stateStatus «frame_type» root counter «has_key» ⌝ }
-{
-    if frame_type == 0 {
-        if root == 0 {
-            return 0x02;
+    if count <= counter as u32 {
+        if frame_type == 0 {
+            return 0x06;
         }
-        return 0;
+        return 0x04;
     }
-    if frame_type == 1 {
-        if counter == 0 {
-            return 0;
-        }
-        return 0x02;
-    }
-    if counter == 0 {
-        if has_key {
-            return 0;
-        }
-        return 0x08;
-    }
-    0x08
-}
-
-// Checks 5 to 7.
-fn slot_status(frame_type: u8, slot: Slot, has_key: bool) -> u8
-    ensures { λ r. ⌜ r ≡ slotStatus «frame_type» slot «has_key» ⌝ }
-{
     if image::is_bad(slot) {
         return 0x20;
     }
-    state_status(frame_type, slot.root, slot.counter, has_key)
+    if wrong_state(frame_type, slot) {
+        return 0x02;
+    }
+    if not_ready(frame_type, slot, has_key) {
+        return 0x08;
+    }
+    0
 }
 
 // Checks 1 to 7: the status of the first that fails, 0 if none does.
 pub fn arrival_status(frame: &[u8], count: u32, slot: Slot, has_key: bool) -> u8
     ensures { λ r. ⌜ r ≡ arrivalStatus (now (frame .entry)) count slot «has_key» ⌝ }
 {
-    let shape = shape_status(frame);
-    if shape != 0 {
-        return shape;
-    }
-    let frame_type = words::byte(frame, 1);
-    let below = counter_status(frame_type, words::byte(frame, 2), count);
-    if below != 0 {
-        return below;
-    }
-    slot_status(frame_type, slot, has_key)
+    status_of(
+        words::byte(frame, 1),
+        frame.len(),
+        words::byte(frame, 3),
+        words::byte(frame, 2),
+        count,
+        slot,
+        has_key,
+    )
 }

@@ -3,14 +3,18 @@
 // The digest is secret until it is compared, and compared at every word, whatever is found: which words differ picks no branch
 // and no index. A status of 0 says that no check failed.
 ghost use mathlib.Core.Path.{_≡_};
+ghost use mathlib.Core.Bool.{true};
+ghost use lib.Dec.{eqb};
 ghost use Prim.Native.Nat.{_+_, _≤_};
 ghost use Rattle.words.specs.Words.{wordsOf};
 ghost use Rattle.words.specs.Table.{field};
-ghost use Rattle.words.specs.Choice.{orElse};
+ghost use Rattle.words.specs.Choice.{pick};
+ghost use Rattle.words.specs.Rows.{firstFailing};
 ghost use Rattle.compare.specs.Compare.{differences};
+ghost use Rattle.jobs.specs.Jobs.{commandType};
 ghost use Rattle.decision.specs.Place.{signatureAt};
-ghost use Rattle.decision.specs.Signature.{signatureHolds, badSignature, signatureStatus};
-ghost use Rattle.decision.specs.Decision.{incrementStatus, valueStatus, decision};
+ghost use Rattle.decision.specs.Signature.{signatureHolds};
+ghost use Rattle.decision.specs.Decision.{lastChecks, decision};
 use jobs::Command;
 
 // Where the 32 bytes of a signature start in a frame. Of type 00 the first 4 are not there: the key sent ends in their place.
@@ -55,8 +59,8 @@ fn signature_holds(command: Command, frame: [u8; 64], digest: [u8; 32]) -> bool
 }
 
 // The status of a wrong signature.
-fn bad_signature(command: Command) -> u8
-    ensures { λ r. ⌜ r ≡ badSignature command ⌝ }
+fn wrong_signature(command: Command) -> u8
+    ensures { λ r. ⌜ r ≡ pick (eqb (commandType command) 0) 0x02 0x04 ⌝ }
 {
     match command {
         Command::WriteRootKey => 0x02,
@@ -66,19 +70,9 @@ fn bad_signature(command: Command) -> u8
     }
 }
 
-// Check 8.
-fn signature_status(command: Command, frame: [u8; 64], digest: [u8; 32]) -> u8
-    ensures { λ r. ⌜ r ≡ signatureStatus command frame digest ⌝ }
-{
-    if signature_holds(command, frame, digest) {
-        return 0;
-    }
-    bad_signature(command)
-}
-
 // Checks 9 and 10 of an increment, of the frame's data and the counter value.
 fn increment_status(sent: u32, value: u32) -> u8
-    ensures { λ r. ⌜ r ≡ incrementStatus sent value ⌝ }
+    ensures { λ r. ⌜ r ≡ firstFailing (lastChecks 2 true sent value) ⌝ }
 {
     if sent != value {
         return 0x10;
@@ -89,33 +83,25 @@ fn increment_status(sent: u32, value: u32) -> u8
     0
 }
 
-// Checks 9 and 10.
-fn value_status(command: Command, frame: [u8; 64], value: u32) -> u8
-    ensures { λ r. ⌜ r ≡ valueStatus command frame value ⌝ }
+// Checks 8 to 10: `holds` says that the signature is right. It decides before the counter data does.
+fn status_of(command: Command, holds: bool, sent: u32, value: u32) -> u8
+    ensures { λ r. ⌜ r ≡ firstFailing (lastChecks (commandType command) holds sent value) ⌝ }
 {
+    if !holds {
+        return wrong_signature(command);
+    }
     match command {
         Command::WriteRootKey => 0,
         Command::UpdateSessionKey => 0,
-        Command::IncrementCounter => increment_status(words::get(&frame, 4), value),
+        Command::IncrementCounter => increment_status(sent, value),
         Command::RequestCounter => 0,
     }
 }
 
-// The first of two statuses that is not 0.
-fn first_failing(status: u8, after: u8) -> u8
-    ensures { λ r. ⌜ r ≡ orElse status after ⌝ }
-{
-    if status != 0 {
-        return status;
-    }
-    after
-}
-
-// Checks 8 to 10: the status of the first that fails, 0 if none does. The signature decides before the counter data does.
+// Checks 8 to 10: the status of the first that fails, 0 if none does.
 pub fn decision(command: Command, frame: [u8; 64], digest: [u8; 32], value: u32) -> u8
     ensures { λ r. ⌜ r ≡ decision command frame digest value ⌝ }
 {
-    let signature = signature_status(command, frame, digest);
-    let data = value_status(command, frame, value);
-    first_failing(signature, data)
+    let holds = signature_holds(command, frame, digest);
+    status_of(command, holds, words::get(&frame, 4), value)
 }

@@ -29,6 +29,13 @@ commandOf SessionKey = UpdateSessionKey
 commandOf Increment = IncrementCounter
 commandOf Request = RequestCounter
 
+-- the type of a command
+abbrev pub commandType : Command → ℕ
+commandType WriteRootKey = 0
+commandType UpdateSessionKey = 1
+commandType IncrementCounter = 2
+commandType RequestCounter = 3
+
 -- a signature check takes 4 blocks; type 01 takes 8, key first. Checks 8 to 10 are made in the last of these steps
 abbrev pub signatureSteps : Command → ℕ
 signatureSteps WriteRootKey = 4

@@ -1,4 +1,4 @@
--- `decision` meets its contract: the signature first. Assumes nothing.
+-- `decision` meets its contract: the table, of the signature that is compared and the data that the frame holds. Assumes nothing.
 use borrow.Author.Needs.{needs}
 use Rattle.decision.specs.Decision.{decision}
 use Rattle.decision.proofs.decision.Statement.{statement}
@@ -6,14 +6,8 @@ use Rattle.decision.proofs.decision.Tie as tie
 
 returns : tie.Need-returns
 unfolding decision
-returns c =
-    rw (
-      ← c .before .before .signature-status .ensures,
-      ← c .before .value-status .ensures,
-    )
-    (c .first-failing .ensures)
+returns c = rw (← c .before .get .ensures, ← c .before .before .before .signature-holds .ensures) (c .status-of .ensures)
 
 pub decision-spec : {M : Type 1} → statement M
 decision-spec =
-    tie.close
-    (tie.spec (λ c κs. search needs) (λ c κs. search needs) (λ c κs. search needs) returns)
+    tie.close (tie.spec (λ c κs. search needs) (λ c. search needs) (λ c κs. search needs) (λ c κs. search needs) returns)
