@@ -5,7 +5,7 @@ use mathlib.Core.List.{List, _++_}
 use lib.Dec.{ltb, eqb}
 use Rattle.words.specs.Choice.{pick}
 use Rattle.words.specs.Words.{bytesOf}
-use Rattle.words.specs.Table.{field}
+use Rattle.frames.specs.Layout.{signedIn, dataIn}
 use Rattle.hmac.specs.declared.Quarter.{Quarter}
 use Rattle.hmac.specs.declared.Quarter.the-variants.{KeyIpad, Message, KeyOpad, InnerDigest}
 use Rattle.jobs.specs.declared.Command.{Command}
@@ -19,14 +19,14 @@ quarterOf step = pick (eqb (step % 4) 0) KeyIpad (pick (eqb (step % 4) 1) Messag
 
 -- 00: the key sent. 01: the root key in use, which gives the new session key, then the new session key. 02, 03: session key
 abbrev pub keyOf : Command → State → List ℕ
-keyOf WriteRootKey s = field 4 32 (s .job .frame)
+keyOf WriteRootKey s = dataIn 0 (s .job .frame)
 keyOf UpdateSessionKey s = pick (ltb (s .job .step) 4) (s .job .root) (s .job .made)
 keyOf IncrementCounter s = sessionKey s (s .job .counter) .bytes
 keyOf RequestCounter s = sessionKey s (s .job .counter) .bytes
 
--- 00: bytes 0-3. 01: bytes 4-7, then bytes 0-7. 02: bytes 0-7. 03: bytes 0-15, then, for the reply, tag then counter value
+-- the front bytes that the table says are signed; 01: first the key data; 03: then, for the reply, tag then counter value
 abbrev pub messageOf : Command → ℕ → List ℕ → ℕ → List ℕ
-messageOf WriteRootKey step frame kept = field 0 4 frame
-messageOf UpdateSessionKey step frame kept = pick (ltb step 4) (field 4 4 frame) (field 0 8 frame)
-messageOf IncrementCounter step frame kept = field 0 8 frame
-messageOf RequestCounter step frame kept = pick (ltb step 4) (field 0 16 frame) (field 4 12 frame ++ bytesOf kept)
+messageOf WriteRootKey step frame kept = signedIn 0 frame
+messageOf UpdateSessionKey step frame kept = pick (ltb step 4) (dataIn 1 frame) (signedIn 1 frame)
+messageOf IncrementCounter step frame kept = signedIn 2 frame
+messageOf RequestCounter step frame kept = pick (ltb step 4) (signedIn 3 frame) (dataIn 3 frame ++ bytesOf kept)

@@ -6,7 +6,7 @@ use lib.Dec.{eqb}
 use lib.ListN.{set}
 use Rattle.words.specs.Choice.{pick}
 use Rattle.words.specs.Words.{bytesOf, bytesOfAll}
-use Rattle.words.specs.Table.{field}
+use Rattle.frames.specs.Layout.{dataIn}
 use Rattle.jobs.specs.Jobs.{lengthOf, commandOf}
 use Rattle.jobs.specs.declared.Command.{Command}
 use Rattle.jobs.specs.declared.Command.the-variants.{WriteRootKey, UpdateSessionKey, IncrementCounter, RequestCounter}
@@ -43,7 +43,7 @@ finishedBy WriteRootKey s = posted s 0x80
 finishedBy UpdateSessionKey s = withKey (posted s 0x80) (s .job .counter) (s .job .made)
 finishedBy IncrementCounter s = posted s 0x80
 finishedBy RequestCounter s =
-    withReply (posted s 0x80) (field 4 12 (s .job .frame) ++ bytesOf (s .job .kept) ++ bytesOfAll (s .chain))
+    withReply (posted s 0x80) (dataIn 3 (s .job .frame) ++ bytesOf (s .job .kept) ++ bytesOfAll (s .chain))
 
 -- the state with the job at a step number
 unfoldable pub withStep : State → ℕ → State
