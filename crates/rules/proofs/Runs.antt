@@ -1,6 +1,6 @@
 -- The laws of several steps. Assumes nothing.
 use Prim.Native.Nat.{ℕ, zero, suc, _+_}
-use mathlib.Core.Path.{_≡_, refl, ap}
+use mathlib.Core.Path.{_≡_, refl, ap, _∙_}
 use mathlib.Core.Bool.{false}
 use native.Mathlib.Omega.{arith}
 use Rattle.words.specs.Choice.{pick}
@@ -16,14 +16,14 @@ stepped-idle d e = rw e
 pub run-idle : (n : ℕ) (d : Device) → isRunning (d .state) ≡ false → run n d ≡ d
 unfolding run
 run-idle zero d e = refl
-run-idle (suc n) d e = rw (run-idle n d e) (stepped-idle d e)
+run-idle (suc n) d e = ap stepped (run-idle n d e) ∙ stepped-idle d e
 
 -- n steps, then m more
 pub run-add : (m n : ℕ) (d : Device) → run (m + n) d ≡ run m (run n d)
 unfolding run
 run-add zero n d =
     let e : 0 + n ≡ n = omega arith in
-    rw e
+    ap (λ (k : ℕ). run k d) e
 run-add (suc m) n d =
     let e : suc m + n ≡ suc (m + n) = omega arith in
-    rw e (ap stepped (run-add m n d))
+    ap (λ (k : ℕ). run k d) e ∙ ap stepped (run-add m n d)
