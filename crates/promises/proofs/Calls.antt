@@ -13,7 +13,8 @@ use Rattle.words.specs.Choice.{pick}
 use Rattle.image.specs.Refusal.{refusal}
 use Rattle.image.proofs.Laid.{SameHeader, then-header, back-header, same-laid, accepted-laid, same-refusal}
 use Rattle.checks.specs.Layout.{counterOf}
-use Rattle.jobs.specs.Jobs.{lengthOf, commandOf, hashSteps}
+use Rattle.jobs.specs.Jobs.{commandOf, hashSteps, longest}
+use Rattle.jobs.proofs.Longest.{some-steps}
 use Rattle.jobs.specs.declared.Kind.{Kind}
 use Rattle.jobs.specs.declared.Kind.the-variants.{RootKeyAndCounter, RootKey, CounterOnly, Nothing, SessionKey, Increment, Request}
 use Rattle.state.specs.declared.Key.{Key}
@@ -163,16 +164,6 @@ worked-out after frame a e = ap (λ (o : Outcome). record { device = after; asIf
     picked : isBusy after ≡ false → pick (isBusy after) (a .asIf) (whole (idle (a .asIf)) frame) ≡ whole (idle (a .asIf)) frame
     picked e = rw e
 
--- no kind of job is without steps
-some-steps : (kind : Kind) → 0 < lengthOf kind
-some-steps RootKeyAndCounter = omega arith
-some-steps RootKey = omega arith
-some-steps CounterOnly = omega arith
-some-steps Nothing = omega arith
-some-steps SessionKey = omega arith
-some-steps Increment = omega arith
-some-steps Request = omega arith
-
 -- a command frame that finds the device idle
 module _ (a : Account) (accepted : refusal (a .asIf .image) ≡ 0) (r : Resting a) (frame : List ℕ) where
   abbrev d : Device
@@ -219,7 +210,7 @@ module _ (a : Account) (accepted : refusal (a .asIf .image) ≡ 0) (r : Resting 
       let arrives = arrived-fails (d .image) (d .state) frame e in
       let none : isBusy (started d frame) ≡ false = ap (λ (s : State). s .job .there) arrives ∙ r .none in
       let result : outcome (started d frame) ≡ whole d frame =
-      ap outcome (sym (run-idle 15 (started d frame) (no-job-idle (started d frame .state) none)))
+      ap outcome (sym (run-idle longest (started d frame) (no-job-idle (started d frame .state) none)))
       ∙ runs-whole d frame (r .none) (r .formed .long (counterOf frame)) in
       subst Sound (sym (worked-out (started d frame) frame a none))
       (record { accepted = accepted-whole (a .asIf) frame accepted; state = inl (ended d frame (a .asIf) (r .formed) (r .header) (r .alike) (started d frame) result none) })

@@ -10,6 +10,7 @@ use lib.Dec.{ltb}
 use lib.ListN.{length, getD}
 use Rattle.words.specs.Choice.{pick}
 use Rattle.image.proofs.Laid.{accepted-laid}
+use Rattle.jobs.specs.Jobs.{longest}
 use Rattle.state.specs.Refusal.{isRunning}
 use Rattle.frames.specs.declared.Class.the-variants.{Command}
 use Rattle.frames.specs.Classes.{namedClass, classOf}
@@ -39,8 +40,8 @@ quota-by n d false l =
     let left = stepsLeft d in
     let least = ltb-false n left l in
     let done : stepsDone n d ≡ left = omega (arith, least) in
-    let same : stepsDone (15 + left) d ≡ left = omega arith in
-    let idle : isRunning (run left d .state) ≡ false = rw same at (work-ends (15 + left) d (omega arith)) in
+    let same : stepsDone (longest + left) d ≡ left = omega arith in
+    let idle : isRunning (run left d .state) ≡ false = rw same at (work-ends (longest + left) d (omega arith)) in
     let more : n ≡ (n - left) + left = omega (arith, least) in
     ap (λ (m : ℕ). run m d) done
     ∙ sym (ap (λ (m : ℕ). run m d) more ∙ run-add (n - left) left d ∙ run-idle (n - left) (run left d) idle)

@@ -1,5 +1,5 @@
--- It ends: a work call with a quota of 15 or more leaves the device idle, and no job comes to 15 steps, whatever happens in between.
--- Assumes nothing.
+-- It ends: a work call with a quota of the longest job or more leaves the device idle, and no job comes to more steps than the longest
+-- has, whatever happens in between. Assumes nothing.
 use Prim.Native.Nat.{ℕ, _+_, _≤_, _<_}
 use mathlib.Core.Path.{_≡_, refl, ap, sym, _∙_}
 use mathlib.Core.Logic.{⊎-elim}
@@ -12,9 +12,10 @@ use Rattle.image.specs.Refusal.{refusal}
 use Rattle.frames.specs.declared.Class.{Class}
 use Rattle.frames.specs.declared.Class.the-variants.{Empty, EnableReset, Reset, Read, Command, Unnamed}
 use Rattle.frames.specs.Classes.{classOf}
+use Rattle.jobs.specs.Jobs.{longest}
+use Rattle.jobs.proofs.Longest.{at-most}
 use Rattle.state.specs.declared.State.{State}
 use Rattle.state.specs.Refusal.{isRunning}
-use Rattle.state.proofs.Running.{at-most-15}
 use Rattle.device.specs.Frame.{withEnabled, stateAfter}
 use Rattle.device.specs.Work.{Device, run, stepsDone}
 use Rattle.device.specs.Calls.{device, poweredUp, afterFrame, afterSteps, afterWork}
@@ -32,8 +33,8 @@ busy-runs a sound busy =
     ⊎-elim (λ r. absurd (never (sym (r .none) ∙ busy))) (λ w. runs _ _ _ _ _ (a .device .image) (a .device .state) (w .at) (w .left))
     (sound .state)
 
--- a work call with a quota of 15 or more leaves the device idle
-module _ (a : Account) (sound : Sound a) (quota : ℕ) (enough : 15 ≤ quota) where
+-- a work call with a quota of the longest job or more leaves the device idle
+module _ (a : Account) (sound : Sound a) (quota : ℕ) (enough : longest ≤ quota) where
   idle-by : (b : Bool) → isBusy (called (Work quota) (a .device)) ≡ b → isBusy (called (Work quota) (a .device)) ≡ false
   idle-by true e =
       let same = same-device (Work quota) a in
@@ -95,7 +96,7 @@ module _ (a : Account) (sound : Sound a) (busy : isBusy (a .device) ≡ true) wh
       as-old (stepsDone quota d) (stepsOf (Work quota) d) (called (Work quota) d) _ (work-done a sound quota) (work-steps quota)
       (work-age (stepsDone quota d))
 
--- After any order of calls, a work call with a quota of 15 or more leaves the device idle.
+-- After any order of calls, a work call with a quota of the longest job or more leaves the device idle.
 module _ (image : List ℕ) (accepted : refusal image ≡ 0) (calls : List Call) where
   abbrev a : Account
   a = account calls (begun image)
@@ -103,16 +104,16 @@ module _ (image : List ℕ) (accepted : refusal image ≡ 0) (calls : List Call)
   sound : Sound a
   sound = all-sound calls (begun image) (start-sound image accepted)
 
-  pub idle-after-15 : (quota : ℕ) → 15 ≤ quota → isBusy (called (Work quota) (a .device)) ≡ false
-  idle-after-15 quota enough = idle-after-work a sound quota enough
+  pub idle-after-longest : (quota : ℕ) → longest ≤ quota → isBusy (called (Work quota) (a .device)) ≡ false
+  idle-after-longest quota enough = idle-after-work a sound quota enough
 
-  -- A job that is there grows older by the steps that each call reports, and has done fewer than 15.
+  -- A job that is there grows older by the steps that each call reports, and has done fewer than the longest has.
   pub steps-counted :
       (call : Call) → isBusy (a .device) ≡ true → isBusy (called call (a .device)) ≡ true →
       called call (a .device) .state .job .step ≡ stepsOf call (a .device) + a .device .state .job .step
   steps-counted call busy still = older a sound busy call still
 
-  pub fewer-than-15 : isBusy (a .device) ≡ true → a .device .state .job .step < 15
-  fewer-than-15 busy =
+  pub fewer-than-longest : isBusy (a .device) ≡ true → a .device .state .job .step < longest
+  fewer-than-longest busy =
       ⊎-elim (λ r. absurd (never (sym (r .none) ∙ busy)))
-      (λ w. omega (arith, w .left, w .at .step, at-most-15 (kindIn (w .found) (a .frame)))) (sound .state)
+      (λ w. omega (arith, w .left, w .at .step, at-most (kindIn (w .found) (a .frame)))) (sound .state)

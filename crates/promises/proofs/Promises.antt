@@ -7,6 +7,7 @@ use mathlib.Core.List.{List, _∷_}
 use lib.ListN.{length, getD}
 use Rattle.image.specs.Header.{count}
 use Rattle.image.specs.Refusal.{refusal}
+use Rattle.jobs.specs.Jobs.{longest}
 use Rattle.state.specs.Parts.{noKey, powerOn}
 use Rattle.state.specs.Refusal.{isRunning}
 use Rattle.device.specs.Work.{Device, run}
@@ -22,7 +23,7 @@ use Rattle.promises.proofs.Ends.{ends}
 use Rattle.promises.proofs.FirstHalf.{all-sound, start-sound, first-half, none-refused}
 use Rattle.promises.proofs.SecondHalf.{short-refused, same-counter, same-session, same-statuses}
 use Rattle.promises.proofs.Reordered.{reordered-counter, reordered-session}
-use Rattle.promises.proofs.ItEnds.{idle-after-15, steps-counted, fewer-than-15}
+use Rattle.promises.proofs.ItEnds.{idle-after-longest, steps-counted, fewer-than-longest}
 use Rattle.promises.proofs.Refused.{power-up-keeps, frame-refused, work-refused}
 use Rattle.promises.proofs.Functions.{Ran, functions-first-half}
 use Rattle.promises.proofs.Examples.{examples}
@@ -53,7 +54,7 @@ counters-commute c fs gs o formed order =
 pub two-bytes-fail : (d : Device) (frame : List ℕ) → length frame ≤ 2 → whole d frame ≡ failedWith 0x04 d
 two-bytes-fail = short-refused
 
--- The same of the device, after any calls that leave it idle: each command frame is sent and gets its 15 steps.
+-- The same of the device, after any calls that leave it idle: each command frame is sent and gets the steps of the longest job.
 pub device-commutes :
     (image : List ℕ) (accepted : refusal image ≡ 0) (calls : List Call) (quiet : isBusy (account calls (begun image) .device) ≡ false)
     (fs gs : List (List ℕ)) → Commands fs → Commands gs → (c : ℕ) → ownFrames c fs ≡ ownFrames c gs →
@@ -69,15 +70,15 @@ device-commutes image accepted calls quiet fs gs commands-f commands-g c order b
       reordered-session a sound quiet fs gs commands-f commands-g c order,
     )
 
--- "So busy clears after at most 15 steps": of any device, and of a work call after any calls; a job that is there is older by the
+-- "So busy clears after at most 15 steps", the length of the longest job: of any device, and of a work call after any calls; a job that is there is older by the
 -- steps that each call reports.
-pub fifteen-are-enough : (d : Device) → isRunning (run 15 d .state) ≡ false
-fifteen-are-enough = ends
+pub longest-is-enough : (d : Device) → isRunning (run longest d .state) ≡ false
+longest-is-enough = ends
 
 pub it-ends :
-    (image : List ℕ) → refusal image ≡ 0 → (calls : List Call) (quota : ℕ) → 15 ≤ quota →
+    (image : List ℕ) → refusal image ≡ 0 → (calls : List Call) (quota : ℕ) → longest ≤ quota →
     isBusy (called (Work quota) (account calls (begun image) .device)) ≡ false
-it-ends = idle-after-15
+it-ends = idle-after-longest
 
 pub every-step-counts :
     (image : List ℕ) → refusal image ≡ 0 → (calls : List Call) (call : Call) → isBusy (account calls (begun image) .device) ≡ true →
@@ -86,10 +87,10 @@ pub every-step-counts :
     stepsOf call (account calls (begun image) .device) + account calls (begun image) .device .state .job .step
 every-step-counts = steps-counted
 
-pub no-fifteenth :
+pub never-longer :
     (image : List ℕ) → refusal image ≡ 0 → (calls : List Call) → isBusy (account calls (begun image) .device) ≡ true →
-    account calls (begun image) .device .state .job .step < 15
-no-fifteenth = fewer-than-15
+    account calls (begun image) .device .state .job .step < longest
+never-longer = fewer-than-longest
 
 -- "Refused calls change no lent byte, return the state handed in and report 0 steps; a refused power-up returns the power-on state."
 pub refused-frame :

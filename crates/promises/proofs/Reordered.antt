@@ -11,6 +11,7 @@ use Rattle.image.specs.Header.{count}
 use Rattle.frames.specs.declared.Class.{Class}
 use Rattle.frames.specs.declared.Class.the-variants.{Command}
 use Rattle.frames.specs.Classes.{classOf}
+use Rattle.jobs.specs.Jobs.{longest}
 use Rattle.state.specs.declared.Key.{Key}
 use Rattle.state.specs.Parts.{noKey}
 use Rattle.device.specs.Work.{Device}
@@ -47,10 +48,10 @@ module _ (a : Account) (sound : Sound a) (quiet : isBusy (a .device) ≡ false) 
   taken-sound = subst Sound is-taken (next (Frame frame) a sound)
 
   abbrev ended : Device
-  ended = called (Work 15) after
+  ended = called (Work longest) after
 
   ended-idle : isBusy ended ≡ false
-  ended-idle = idle-after-work taken taken-sound 15 (omega arith)
+  ended-idle = idle-after-work taken taken-sound longest (omega arith)
 
   -- whether the job ran or the frame failed on arrival
   abbrev takenAs : Bool → Account
@@ -62,11 +63,11 @@ module _ (a : Account) (sound : Sound a) (quiet : isBusy (a .device) ≡ false) 
   as-whole false = refl
 
   one-whole :
-      (accounted (Work 15) (accounted (Frame frame) a) .asIf ≡ whole (idle (a .asIf)) frame)
-      × (isBusy (accounted (Work 15) (accounted (Frame frame) a) .device) ≡ false)
+      (accounted (Work longest) (accounted (Frame frame) a) .asIf ≡ whole (idle (a .asIf)) frame)
+      × (isBusy (accounted (Work longest) (accounted (Frame frame) a) .device) ≡ false)
   one-whole = (
-    ap (λ (b : Account). accounted (Work 15) b .asIf) is-taken ∙ as-whole (isBusy after),
-    ap (λ (b : Account). isBusy (accounted (Work 15) b .device)) is-taken ∙ ap isBusy (same-device (Work 15) taken) ∙ ended-idle,
+    ap (λ (b : Account). accounted (Work longest) b .asIf) is-taken ∙ as-whole (isBusy after),
+    ap (λ (b : Account). isBusy (accounted (Work longest) b .device)) is-taken ∙ ap isBusy (same-device (Work longest) taken) ∙ ended-idle,
   )
 
 -- frames, each with the steps of its job, run whole
@@ -77,8 +78,8 @@ unfolding account eachRun allWhole Commands
 each-whole [] a sound quiet commands = (refl, quiet)
 each-whole (frame ∷ fs) a sound quiet commands =
     let one = one-whole a sound quiet frame (commands .0) in
-    let b = accounted (Work 15) (accounted (Frame frame) a) in
-    let more = each-whole fs b (next (Work 15) _ (next (Frame frame) a sound)) (one .1) (commands .1) in
+    let b = accounted (Work longest) (accounted (Frame frame) a) in
+    let more = each-whole fs b (next (Work longest) _ (next (Frame frame) a sound)) (one .1) (commands .1) in
     (more .0 ∙ ap (allWhole fs) (one .0), more .1)
 
 -- Run command frames whole, in two orders in which a counter has the same frames in the same order. The device comes to the same

@@ -9,6 +9,7 @@ use Rattle.words.specs.Choice.{pick}
 use Rattle.frames.specs.declared.Class.the-variants.{Command}
 use Rattle.frames.specs.Classes.{classOf}
 use Rattle.checks.specs.Layout.{counterOf}
+use Rattle.jobs.specs.Jobs.{longest}
 use Rattle.rules.specs.Whole.{Outcome, whole}
 use Rattle.promises.specs.Orders.{Call, Frame, Work}
 use Rattle.promises.specs.Account.{idle}
@@ -30,7 +31,7 @@ allWhole (frame ∷ more) o = allWhole more (whole (idle o) frame)
 -- the calls that run frames whole: each frame, and the steps of its job
 unfoldable pub eachRun : List (List ℕ) → List Call
 eachRun [] = []
-eachRun (frame ∷ more) = Frame frame ∷ Work 15 ∷ eachRun more
+eachRun (frame ∷ more) = Frame frame ∷ Work longest ∷ eachRun more
 
 -- command frames: 9Bh, two bytes or more
 unfoldable pub Commands : List (List ℕ) → Type 0

@@ -15,7 +15,8 @@ use Rattle.hmac.specs.Hmac.{HMAC}
 use Rattle.hmac.proofs.Lengths.{length-HMAC}
 use Rattle.image.specs.Slot.{rootKey}
 use Rattle.checks.specs.Layout.{counterOf}
-use Rattle.jobs.specs.Jobs.{commandOf}
+use Rattle.jobs.specs.Jobs.{commandOf, longest}
+use Rattle.jobs.proofs.Longest.{longest-is}
 use Rattle.jobs.specs.declared.Kind.{Kind}
 use Rattle.jobs.specs.declared.Kind.the-variants.{RootKeyAndCounter, RootKey, CounterOnly, Nothing, SessionKey, Increment, Request}
 use Rattle.decision.specs.Decision.{decision}
@@ -64,7 +65,7 @@ module _ (d : Device) (frame : List ℕ) (formed : length (keyThere d frame) ≡
   -- the whole-frame result of a kind of job
   abbrev Whole : Kind → Type 0
   Whole kind =
-      outcome (run 15 (device (d .image) (start kind))) ≡
+      outcome (run longest (device (d .image) (start kind))) ≡
       pick (eqb (lastChecks (commandOf kind) d frame) 0) (carriedOut kind d frame) (failedWith (lastChecks (commandOf kind) d frame) d)
 
   root-digest : bytesOfAll (digest Nothing) ≡ signature (commandOf Nothing) d frame
@@ -88,9 +89,9 @@ module _ (d : Device) (frame : List ℕ) (formed : length (keyThere d frame) ≡
   unfolding lastChecks
   same-decision kind digest e = ap (λ (g : List ℕ). decision (commandOf kind) sent g (valueIn d frame)) e
 
-  -- the job's steps: four, then eleven
-  fifteen : (kind : Kind) → run 15 (device (d .image) (start kind)) ≡ run 11 (run 4 (device (d .image) (start kind)))
-  fifteen kind = run-add 11 4 (device (d .image) (start kind))
+  -- the steps of the longest job: four, then the others
+  all-steps : (kind : Kind) → run longest (device (d .image) (start kind)) ≡ run 11 (run 4 (device (d .image) (start kind)))
+  all-steps kind = ap (λ (n : ℕ). run n (device (d .image) (start kind))) longest-is ∙ run-add 11 4 (device (d .image) (start kind))
 
   four :
       (kind : Kind) →
@@ -102,32 +103,32 @@ module _ (d : Device) (frame : List ℕ) (formed : length (keyThere d frame) ≡
   whole-nothing : Whole Nothing
   unfolding carriedOut failedWith withKept
   whole-nothing =
-      rw (fifteen Nothing, four Nothing)
+      rw (all-steps Nothing, four Nothing)
       (ended 11 (d .image) _ (valueIn d frame) _ _ (same-decision Nothing _ root-digest) (λ e. stored-nothing _ _ _ _ _ _ _ _ _))
 
   whole-counter : Whole CounterOnly
   unfolding carriedOut failedWith withKept
   whole-counter =
-      rw (fifteen CounterOnly, four CounterOnly)
+      rw (all-steps CounterOnly, four CounterOnly)
       (ended 11 (d .image) _ (valueIn d frame) _ _ (same-decision CounterOnly _ root-digest) (λ e. stored-counter _ _ _ _ _ _ _ _ _))
 
   whole-root : Whole RootKey
   unfolding carriedOut failedWith withKept
   whole-root =
-      rw (fifteen RootKey, four RootKey)
+      rw (all-steps RootKey, four RootKey)
       (ended 11 (d .image) _ (valueIn d frame) _ _ (same-decision RootKey _ root-digest) (λ e. stored-root _ _ _ _ _ _ _ _ _))
 
   whole-root-and-counter : Whole RootKeyAndCounter
   unfolding carriedOut failedWith withKept
   whole-root-and-counter =
-      rw (fifteen RootKeyAndCounter, four RootKeyAndCounter)
+      rw (all-steps RootKeyAndCounter, four RootKeyAndCounter)
       (ended 11 (d .image) _ (valueIn d frame) _ _ (same-decision RootKeyAndCounter _ root-digest)
       (λ e. stored-root-and-counter _ _ _ _ _ _ _ _ _))
 
   whole-increment : Whole Increment
   unfolding carriedOut failedWith withKept
   whole-increment =
-      rw (fifteen Increment, four Increment)
+      rw (all-steps Increment, four Increment)
       (ended 11 (d .image) _ (valueIn d frame) _ _ (same-decision Increment _ increment-digest) (λ e. stored-increment _ _ _ _ _ _ _ _ _))
 
   reply-signed :
@@ -139,7 +140,7 @@ module _ (d : Device) (frame : List ℕ) (formed : length (keyThere d frame) ≡
   whole-request : Whole Request
   unfolding carriedOut failedWith withKept
   whole-request =
-      rw (fifteen Request, four Request)
+      rw (all-steps Request, four Request)
       (ended 11 (d .image) _ (valueIn d frame) _ _ (same-decision Request _ request-digest)
       (λ e. rw (← reply-signed (digest Request) (inner Request)) (stored-request _ _ _ _ _ _ _ _ _)))
 
@@ -162,7 +163,7 @@ module _ (d : Device) (frame : List ℕ) (formed : length (keyThere d frame) ≡
 
   whole-session : Whole SessionKey
   whole-session =
-      rw (fifteen SessionKey, four SessionKey)
+      rw (all-steps SessionKey, four SessionKey)
       (session-ended (digest SessionKey) (inner SessionKey) (bytesOfAll (digest SessionKey)) (ap length key-made ∙ length-HMAC _ _) key-made)
 
   whole-kind : (kind : Kind) → Whole kind
@@ -177,9 +178,9 @@ module _ (d : Device) (frame : List ℕ) (formed : length (keyThere d frame) ≡
 -- a frame that fails on arrival starts no job
 pub not-taken :
     (d : Device) (frame : List ℕ) (status : ℕ) → d .state .job .there ≡ false →
-    run 15 (device (d .image) (taken (d .state) status (d .state .job))) ≡ device (d .image) (taken (d .state) status (d .state .job))
+    run longest (device (d .image) (taken (d .state) status (d .state .job))) ≡ device (d .image) (taken (d .state) status (d .state .job))
 unfolding isRunning taken pick
-not-taken d frame status idle = run-idle 15 _ (rw idle)
+not-taken d frame status idle = run-idle longest _ (rw idle)
 
 pub arrived-fails :
     (image : List ℕ) (s : State) (frame : List ℕ) → eqb (statusOnArrival image s frame) 0 ≡ false →
@@ -196,16 +197,16 @@ arrived-starts image s frame e = rw e
 runs-by :
     (d : Device) (frame : List ℕ) → d .state .job .there ≡ false → length (keyThere d frame) ≡ 32 →
     (b : Bool) → eqb (statusOnArrival (d .image) (d .state) frame) 0 ≡ b →
-    outcome (run 15 (device (d .image) (arrived (d .image) (d .state) frame))) ≡ whole d frame
+    outcome (run longest (device (d .image) (arrived (d .image) (d .state) frame))) ≡ whole d frame
 unfolding whole allChecks taken jobOf pick failedWith
 runs-by d frame idle formed true e =
     rw (arrived-starts (d .image) (d .state) frame e, e) (whole-kind d frame formed (kindIn d frame))
 runs-by d frame idle formed false e =
     rw (arrived-fails (d .image) (d .state) frame e, not-taken d frame (statusOnArrival (d .image) (d .state) frame) idle, e, e)
 
--- A command frame that finds the device idle, and the fifteen steps after it at most, come to what the page says. A session key
+-- A command frame that finds the device idle, and the steps after it, at most those of the longest job, come to what the page says. A session key
 -- has 32 bytes in every state of the type.
 pub runs-whole :
     (d : Device) (frame : List ℕ) → d .state .job .there ≡ false → length (keyThere d frame) ≡ 32 →
-    outcome (run 15 (device (d .image) (arrived (d .image) (d .state) frame))) ≡ whole d frame
+    outcome (run longest (device (d .image) (arrived (d .image) (d .state) frame))) ≡ whole d frame
 runs-whole d frame idle formed = runs-by d frame idle formed _ refl
