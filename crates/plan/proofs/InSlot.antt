@@ -1,11 +1,12 @@
 -- Several stores in a counter's slot: what they make of its bytes, and that they leave the other slots and the header. Assumes
 -- nothing.
-use Prim.Native.Nat.{ℕ, _+_, _<_}
+use Prim.Native.Nat.{ℕ, zero, suc, _+_, _<_}
 use mathlib.Core.Path.{_≡_, refl, ap, _∙_}
 use mathlib.Core.Bool.{Bool, true, false}
 use mathlib.Core.List.{List, [], _∷_}
 use borrow.Author.Tests.{leb-true}
 use lib.Dec.{leb}
+use lib.ListN.{take}
 use Rattle.words.specs.Choice.{pick}
 use Rattle.words.specs.Words.{putWord}
 use Rattle.words.proofs.Choice.{both}
@@ -50,6 +51,15 @@ all-stored (store ∷ more) image c laid below inside =
       other = λ k apart. rest .other k apart ∙ slot-other image c (store .at) (store .word) laid below fits k apart;
     }
 
+-- the first of some stores
+pub inside-some : (ss : List Store) (j : ℕ) → allInside ss ≡ true → allInside (take j ss) ≡ true
+unfolding allInside pick
+inside-some ss zero e = refl
+inside-some [] (suc j) e = refl
+inside-some (store ∷ more) (suc j) e =
+    let parts = both (leb (store .at + 4) 48) (allInside more) e in
+    rw (parts .0) (inside-some more j (parts .1))
+
 -- the stores of every kind of job are inside a slot
 pub inside-slot : (kind : Kind) (frame : List ℕ) (kept : ℕ) → allInside (stores kind frame kept) ≡ true
 unfolding allInside keyStores pick
@@ -60,3 +70,12 @@ inside-slot Nothing frame kept = refl
 inside-slot SessionKey frame kept = refl
 inside-slot Increment frame kept = refl
 inside-slot Request frame kept = refl
+
+-- so this is what they make of the image: all of them, and the first of them
+module _ (kind : Kind) (frame : List ℕ) (kept : ℕ) (image : List ℕ) (c : ℕ) (laid : Laid image) (below : c < count image) where
+  pub made : InSlot (stores kind frame kept) image c
+  made = all-stored (stores kind frame kept) image c laid below (inside-slot kind frame kept)
+
+  pub some-made : (j : ℕ) → InSlot (take j (stores kind frame kept)) image c
+  some-made j =
+      all-stored (take j (stores kind frame kept)) image c laid below (inside-some (stores kind frame kept) j (inside-slot kind frame kept))

@@ -11,10 +11,10 @@ use lib.Seq.{ext-getD, getD-set-same}
 use Rattle.hmac.proofs.Lengths.{length-HMAC}
 use Rattle.image.specs.Header.{count}
 use Rattle.image.proofs.Laid.{SameHeader, same-laid}
-use Rattle.checks.specs.Layout.{counterOf}
 use Rattle.jobs.specs.Jobs.{commandOf}
 use Rattle.jobs.specs.declared.Kind.{Kind}
 use Rattle.jobs.specs.declared.Kind.the-variants.{RootKeyAndCounter, RootKey, CounterOnly, Nothing, SessionKey, Increment, Request}
+use Rattle.checks.specs.Layout.{counterOf}
 use Rattle.state.specs.declared.Key.{Key}
 use Rattle.state.specs.Parts.{noKey}
 use Rattle.arrival.specs.Arrival.{statusOnArrival}

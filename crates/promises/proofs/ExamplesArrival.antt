@@ -15,13 +15,13 @@ use Rattle.checks.specs.Layout.{counterOf, frameLength}
 use Rattle.checks.specs.Checks.{shapeStatus, counterStatus, stateStatus, slotStatus, arrivalStatus}
 use Rattle.state.specs.Parts.{sessionKey}
 use Rattle.arrival.specs.Arrival.{statusOnArrival, taken}
+use Rattle.arrival.proofs.Arrives.{arrived-fails}
 use Rattle.device.specs.Frame.{withEnabled}
 use Rattle.device.specs.Work.{Device}
 use Rattle.device.specs.Calls.{device}
-use Rattle.rules.proofs.RunsWhole.{arrived-fails}
+use Rattle.progress.proofs.Enabled.{enabledAs}
 use Rattle.promises.specs.Orders.{Frame, called, allCalled}
 use Rattle.promises.specs.Examples.{P1, P2, P3, P4, P5, P6, P7, P8, P13, P14, Ready, slotFor, Shaped, InOrder, Ends, Seen}
-use Rattle.promises.proofs.Enabled.{enabledAs}
 use Rattle.promises.proofs.ExamplesCalls.{Holds, frame-called, ready-enabled, command-called}
 
 -- a frame with its length in order has two bytes or more

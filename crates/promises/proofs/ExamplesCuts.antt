@@ -3,6 +3,7 @@ use Prim.Native.Nat.{ℕ, _<_}
 use mathlib.Core.Path.{_≡_, refl, ap, sym, _∙_}
 use mathlib.Core.Bool.{true}
 use mathlib.Core.List.{List}
+use native.Mathlib.Omega.{arith}
 use lib.ListN.{take}
 use Rattle.words.specs.Choice.{pick}
 use Rattle.words.specs.Table.{table}
@@ -11,8 +12,8 @@ use Rattle.image.specs.Header.{count}
 use Rattle.image.specs.Slot.{slotOf, unset}
 use Rattle.image.proofs.Laid.{Laid, same-laid, accepted-laid}
 use Rattle.image.proofs.Slots.{slotBytes, root-in, counter-in}
-use Rattle.checks.specs.Layout.{counterOf}
 use Rattle.jobs.specs.declared.Kind.the-variants.{RootKeyAndCounter}
+use Rattle.checks.specs.Layout.{counterOf}
 use Rattle.plan.specs.declared.Store.{Store}
 use Rattle.plan.specs.Stores.{keyStores, stores}
 use Rattle.plan.specs.Storing.{allStored}
@@ -23,7 +24,7 @@ use Rattle.promises.specs.Compared.{Counter, counterIn}
 use Rattle.promises.specs.Orders.{allCalled}
 use Rattle.promises.specs.Examples.{P10-cut-after-14, P10-cut-after-13, Ready, Pairs, Seen, script}
 use Rattle.promises.proofs.Counters.{readCounter, counter-read}
-use Rattle.promises.proofs.ExamplesJobs.{pairing, nine-and-ten}
+use Rattle.promises.proofs.ExamplesJobs.{pairing, some-stored}
 
 module _ (d : Device) (ready : Ready d) (frame : List ℕ) (p : Pairs d frame) where
   abbrev c : ℕ
@@ -54,7 +55,7 @@ module _ (d : Device) (ready : Ready d) (frame : List ℕ) (p : Pairs d frame) w
   pub cut-after-14 : Seen P10-cut-after-14 d frame (allCalled (script P10-cut-after-14 frame) d)
   unfolding allCalled allInside putAll putWord keyStores table readCounter counterIn pick
   cut-after-14 =
-      let after = ap (λ (x : Device). x .image) (pairing d ready frame p 10 ∙ nine-and-ten _ _ _ _ _ _ _ _ _ .1) in
+      let after = ap (λ (x : Device). x .image) (pairing d ready frame p 10 ∙ some-stored _ _ _ _ _ _ _ _ _ 10 (omega arith)) in
       let now = shown 10 refl in
       let set : slotOf (imageAt 10) c .counter ≡ 0 = ap (λ (x : Counter). x .counter) now in
       let value : slotOf (imageAt 10) c .value ≡ 0 = rw set at (ap (λ (x : Counter). x .value) now) in
@@ -64,7 +65,7 @@ module _ (d : Device) (ready : Ready d) (frame : List ℕ) (p : Pairs d frame) w
   pub cut-after-13 : Seen P10-cut-after-13 d frame (allCalled (script P10-cut-after-13 frame) d)
   unfolding allCalled allInside putAll putWord keyStores table readCounter counterIn pick
   cut-after-13 =
-      let after = ap (λ (x : Device). x .image) (pairing d ready frame p 9 ∙ nine-and-ten _ _ _ _ _ _ _ _ _ .0) in
+      let after = ap (λ (x : Device). x .image) (pairing d ready frame p 9 ∙ some-stored _ _ _ _ _ _ _ _ _ 9 (omega arith)) in
       let now = shown 9 refl in
       let counter = ap (λ (x : Counter). x .counter) now ∙ sym (counter-in (d .image) c laid below) ∙ p .counter in
       let root = ap (λ (x : Counter). x .root) now ∙ found-unset in

@@ -1,56 +1,56 @@
 -- The examples whose job runs: P9, P11 and P12, and the device that the cuts of P10 find. Assumes nothing.
-use Prim.Native.Nat.{ℕ, _+_, _≤_}
+use Prim.Native.Nat.{ℕ, suc, _+_, _≤_, _<_}
 use mathlib.Core.Path.{_≡_, refl, ap, sym, subst, _∙_}
 use mathlib.Core.List.{List}
 use native.Mathlib.Omega.{arith}
 use borrow.Author.Tests.{eq-eqb}
-use lib.ListN.{take, replicate}
+use lib.ListN.{length, take, replicate}
 use Rattle.words.specs.Choice.{pick}
 use Rattle.words.specs.Words.{wordOr0}
 use Rattle.words.proofs.Table.{length-table}
 use Rattle.words.specs.Table.{field}
+use Rattle.hmac.proofs.FourBlocks.{fourth-hmac}
 use Rattle.image.specs.Slot.{isBad, rootKey}
-use Rattle.checks.specs.Layout.{counterOf}
-use Rattle.checks.specs.Checks.{stateStatus, slotStatus}
 use Rattle.jobs.specs.Jobs.{rootKind, kindOf}
 use Rattle.jobs.specs.declared.Command.the-variants.{WriteRootKey, IncrementCounter}
 use Rattle.jobs.specs.declared.Kind.{Kind}
 use Rattle.jobs.specs.declared.Kind.the-variants.{RootKeyAndCounter, Nothing, Increment}
-use Rattle.decision.specs.Signature.{signatureStatus}
-use Rattle.decision.specs.Decision.{incrementStatus, decision}
-use Rattle.plan.specs.Stores.{keyStores, stores, storeOf}
+use Rattle.checks.specs.Layout.{counterOf}
+use Rattle.checks.specs.Checks.{stateStatus, slotStatus}
 use Rattle.state.specs.declared.Key.{Key}
 use Rattle.state.specs.declared.State.{State}
 use Rattle.state.specs.Parts.{posted, sessionKey}
-use Rattle.state.specs.Refusal.{isRunning}
+use Rattle.decision.specs.Signature.{signatureStatus}
+use Rattle.decision.specs.Decision.{incrementStatus, decision}
+use Rattle.plan.specs.Stores.{keyStores, stores}
 use Rattle.plan.specs.Storing.{allStored}
 use Rattle.steps.specs.Ending.{withStep, advanced}
 use Rattle.steps.specs.Deciding.{withKept, decisionOf, decided}
-use Rattle.steps.specs.Step.{stepState, stepImage}
 use Rattle.arrival.specs.Arrival.{frameKept, jobOf, taken}
-use Rattle.device.specs.Work.{Device, stepped, run}
+use Rattle.arrival.proofs.Arrives.{arrived-starts}
+use Rattle.device.specs.Work.{Device, run}
 use Rattle.device.specs.Calls.{device}
+use Rattle.progress.proofs.Runs.{run-add}
+use Rattle.progress.proofs.Hashing.{busy, begun, hashedAt, afterFour, four-steps}
+use Rattle.progress.proofs.Stores.{stores-left, all-made}
 use Rattle.rules.specs.Whole.{kindIn, valueIn, keyThere}
-use Rattle.rules.proofs.Runs.{run-add}
-use Rattle.rules.proofs.Hashing.{busy, fourth-hmac, begun, hashedAt, afterFour, four-steps}
-use Rattle.rules.proofs.RunsWhole.{short, arrived-starts}
+use Rattle.rules.proofs.RunsWhole.{short}
 use Rattle.promises.specs.Orders.{Frame, Work, called, allCalled}
 use Rattle.promises.specs.Examples.{P9-after-14, P9-after-15, P11, P12, Ready, slotFor, InOrder, Good, Pairs, Ends, Seen}
 use Rattle.promises.proofs.Sound.{started}
 use Rattle.promises.proofs.ExamplesCalls.{Holds, work-called}
 use Rattle.promises.proofs.ExamplesArrival.{shaped-long, past-counter}
 
--- the stores of a root key job, after nine and ten of its eleven
-module _ (image : List ℕ) (keys : List Key) (counter : ℕ) (frame root chain made inner : List ℕ) (kept : ℕ) where
-  abbrev Stores : ℕ → Type 0
-  Stores m =
-      run m (device image (advanced (busy RootKeyAndCounter keys counter frame root 3 chain made inner kept))) ≡
-      device (allStored (take m (stores RootKeyAndCounter frame kept)) image counter)
-      (busy RootKeyAndCounter keys counter frame root (m + 4) chain made inner kept)
-
-  pub nine-and-ten : Stores 9 × Stores 10
-  unfolding run stepped stepState stepImage isRunning pick advanced withStep storeOf keyStores allStored
-  nine-and-ten = (refl, refl)
+-- the first stores of a root key job that pairs, some of them left
+pub some-stored :
+    (image : List ℕ) (keys : List Key) (counter : ℕ) (frame root chain made inner : List ℕ) (kept j : ℕ) →
+    j < length (stores RootKeyAndCounter frame kept) →
+    run j (device image (advanced (busy RootKeyAndCounter keys counter frame root 3 chain made inner kept))) ≡
+    device (allStored (take j (stores RootKeyAndCounter frame kept)) image counter)
+    (busy RootKeyAndCounter keys counter frame root (3 + suc j) chain made inner kept)
+unfolding withStep
+some-stored image keys counter frame root chain made inner kept j left =
+    stores-left (busy RootKeyAndCounter keys counter frame root 3 chain made inner kept) 3 refl refl image j left
 
 module _ (d : Device) (ready : Ready d) (frame : List ℕ) where
   abbrev c : ℕ
@@ -115,12 +115,12 @@ module _ (d : Device) (ready : Ready d) (frame : List ℕ) where
       (rw (p .in-order .shaped .typed, p .lasting, p .counter)) _ (rw (root-good (p .good)))
 
   pub busy-after-14 : Holds P9-after-14 d frame
-  unfolding allCalled
-  busy-after-14 p = subst (Seen P9-after-14 d frame) (sym (pairing p 10 ∙ nine-and-ten _ _ _ _ _ _ _ _ _ .1)) (refl, refl)
+  unfolding allCalled keyStores
+  busy-after-14 p = subst (Seen P9-after-14 d frame) (sym (pairing p 10 ∙ some-stored _ _ _ _ _ _ _ _ _ 10 (omega arith))) (refl, refl)
 
   pub done-after-15 : Holds P9-after-15 d frame
-  unfolding allCalled run stepped stepState isRunning advanced withStep pick
-  done-after-15 p = subst (Ends 0x80) (sym (pairing p 11)) (refl, refl)
+  unfolding allCalled keyStores withStep
+  done-after-15 p = subst (Ends 0x80) (sym (pairing p 11 ∙ all-made (hashed RootKeyAndCounter) 3 refl refl (d .image) 11 (omega arith))) (refl, refl)
 
   pub temporary-key : Holds P11 d frame
   unfolding allCalled kindOf rootKind slotStatus stateStatus isBad run decided withKept advanced pick

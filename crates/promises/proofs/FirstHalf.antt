@@ -16,16 +16,17 @@ use Rattle.frames.specs.Classes.{classOf}
 use Rattle.checks.specs.Layout.{counterOf}
 use Rattle.state.specs.Parts.{powerOn}
 use Rattle.state.specs.Refusal.{jobRefusal, deviceRefusal}
+use Rattle.state.proofs.Running.{no-job-idle}
 use Rattle.arrival.specs.Arrival.{arrived}
 use Rattle.device.specs.Frame.{withEnabled, stateAfter}
 use Rattle.device.specs.Work.{Device, run, stepsDone}
 use Rattle.device.specs.Calls.{device, poweredUp, afterFrame, afterSteps, afterWork, imageAfterWork}
+use Rattle.progress.proofs.Runs.{run-idle}
+use Rattle.progress.proofs.Jobs.{runs}
 use Rattle.rules.specs.Whole.{outcome}
-use Rattle.rules.proofs.Runs.{run-idle}
 use Rattle.promises.specs.Compared.{Alike}
 use Rattle.promises.specs.Orders.{Call, PowerUp, Frame, Work, called, numberOf, allCalled}
 use Rattle.promises.specs.Account.{Account, isBusy, goneBy, worked, cut, framed, accounted, account, begun}
-use Rattle.promises.proofs.Progress.{no-job-idle, runs}
 use Rattle.promises.proofs.Sound.{Resting, Working, Sound, rest-sound}
 use Rattle.promises.proofs.Interrupted.{below-now}
 use Rattle.promises.proofs.Calls.{formed-on, accepted-now, enabled-only, cut-off, taken-by, worked-by}

@@ -19,11 +19,11 @@ use Rattle.state.specs.Refusal.{isRunning}
 use Rattle.device.specs.Frame.{withEnabled, stateAfter}
 use Rattle.device.specs.Work.{Device, run, stepsDone}
 use Rattle.device.specs.Calls.{device, poweredUp, afterFrame, afterSteps, afterWork}
+use Rattle.progress.proofs.Jobs.{runs, progress}
+use Rattle.progress.proofs.Ends.{work-ends}
 use Rattle.rules.specs.Whole.{kindIn}
 use Rattle.promises.specs.Orders.{Call, PowerUp, Frame, Work, called, stepsOf}
 use Rattle.promises.specs.Account.{Account, isBusy, accounted, account, begun}
-use Rattle.promises.proofs.Progress.{runs, progress}
-use Rattle.promises.proofs.Ends.{work-ends}
 use Rattle.promises.proofs.Sound.{Sound}
 use Rattle.promises.proofs.FirstHalf.{not-refused, frame-done, work-done, next, all-sound, start-sound, same-device}
 

@@ -3,11 +3,8 @@ pub mod Counters
 pub mod Taken
 pub mod Own
 pub mod WholeOwn
-pub mod Progress
 pub mod Cuts
-pub mod Enabled
 pub mod Alikes
-pub mod Ends
 pub mod Sound
 pub mod Interrupted
 pub mod Calls

@@ -10,14 +10,14 @@ use Rattle.words.proofs.Choice.{never}
 use Rattle.image.specs.Header.{count}
 use Rattle.image.specs.Slot.{slotOf, isSet, isBad, rootKey}
 use Rattle.image.proofs.Laid.{SameHeader}
-use Rattle.checks.specs.Layout.{typeOf, counterOf}
-use Rattle.checks.specs.Checks.{shapeStatus, counterStatus, slotStatus, arrivalStatus}
 use Rattle.jobs.specs.Jobs.{commandOf}
 use Rattle.jobs.specs.declared.Kind.{Kind}
 use Rattle.jobs.specs.declared.Kind.the-variants.{RootKeyAndCounter, RootKey, CounterOnly, Nothing, SessionKey, Increment, Request}
-use Rattle.decision.specs.Decision.{decision}
+use Rattle.checks.specs.Layout.{typeOf, counterOf}
+use Rattle.checks.specs.Checks.{shapeStatus, counterStatus, slotStatus, arrivalStatus}
 use Rattle.state.specs.declared.Key.{Key}
 use Rattle.state.specs.Parts.{sessionKey}
+use Rattle.decision.specs.Decision.{decision}
 use Rattle.arrival.specs.Arrival.{statusOnArrival}
 use Rattle.device.specs.Work.{Device}
 use Rattle.rules.specs.Whole.{kindIn, keyThere, newKey, lastChecks, allChecks}

@@ -12,6 +12,7 @@ use Rattle.state.specs.Parts.{noKey, powerOn}
 use Rattle.state.specs.Refusal.{isRunning}
 use Rattle.device.specs.Work.{Device, run}
 use Rattle.device.specs.Calls.{device, outputAfterFrame, afterWork}
+use Rattle.progress.proofs.Ends.{ends}
 use Rattle.rules.specs.Whole.{Outcome, outcome, failedWith, whole}
 use Rattle.promises.specs.Compared.{counterIn, Alike}
 use Rattle.promises.specs.Orders.{Call, PowerUp, Frame, Work, called, numberOf, stepsOf, allCalled}
@@ -19,7 +20,6 @@ use Rattle.promises.specs.Account.{isBusy, account, begun}
 use Rattle.promises.specs.Reordering.{ownFrames, allWhole, ownStatuses, eachRun, Commands}
 use Rattle.promises.specs.Examples.{Example, Ready, Given, script, Seen}
 use Rattle.promises.proofs.WholeOwn.{Formed}
-use Rattle.promises.proofs.Ends.{ends}
 use Rattle.promises.proofs.FirstHalf.{all-sound, start-sound, first-half, none-refused}
 use Rattle.promises.proofs.SecondHalf.{short-refused, same-counter, same-session, same-statuses}
 use Rattle.promises.proofs.Reordered.{reordered-counter, reordered-session}

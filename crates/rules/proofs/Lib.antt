@@ -1,6 +1,4 @@
 -- That the step machine obeys the whole-frame rules.
-pub mod Runs
-pub mod Hashing
 pub mod Storing
 pub mod Ended
 pub mod RunsWhole

@@ -1,18 +1,21 @@
--- It ends: after the steps of the longest job none runs, and a device in which none runs stays as it is. Assumes nothing.
-use Prim.Native.Nat.{ℕ, zero, suc, _+_, _≤_}
+-- It ends: after the steps of the longest job none runs, since each step leaves less of a job; so a work call does its quota of steps,
+-- or comes to the end of the job. Assumes nothing.
+use Prim.Native.Nat.{ℕ, zero, suc, _+_, _-_, _≤_}
 use mathlib.Core.Path.{_≡_, refl, ap, sym, _∙_}
 use mathlib.Core.Bool.{Bool, true, false}
 use native.Mathlib.Omega.{arith}
+use borrow.Author.Tests.{ltb-true, ltb-false}
+use lib.Dec.{ltb}
 use Rattle.words.specs.Choice.{pick}
 use Rattle.words.proofs.Choice.{never, either}
-use Rattle.state.specs.Refusal.{isRunning}
 use Rattle.jobs.specs.Jobs.{longest}
 use Rattle.jobs.proofs.Longest.{at-most}
+use Rattle.state.specs.Refusal.{isRunning}
 use Rattle.state.proofs.Running.{step-left}
 use Rattle.steps.specs.Step.{stepState}
 use Rattle.device.specs.Work.{Device, stepped, run, within, stepsLeft, stepsDone}
 use Rattle.device.proofs.Ends.{rest, step-less, bound-runs}
-use Rattle.rules.proofs.Runs.{stepped-idle, run-idle, run-add}
+use Rattle.progress.proofs.Runs.{stepped-idle, run-idle, run-add}
 
 -- where a job runs after a step, one ran before it
 ran-by : (d : Device) → isRunning (stepped d .state) ≡ true → (b : Bool) → isRunning (d .state) ≡ b → isRunning (d .state) ≡ true
@@ -83,9 +86,28 @@ left-ends-by d true e =
     absurd (never (sym (ends d) ∙ ap (λ (n : ℕ). isRunning (run n d .state)) (sym (within-ends longest d e)) ∙ e))
 left-ends-by d false e = e
 
+pub left-ends : (d : Device) → isRunning (run (stepsLeft d) d .state) ≡ false
+left-ends d = left-ends-by d _ refl
+
 -- so a work call with a quota of the longest job or more leaves no job running
 pub work-ends : (quota : ℕ) (d : Device) → longest ≤ quota → isRunning (run (stepsDone quota d) d .state) ≡ false
 unfolding stepsLeft
 work-ends quota d h =
     let all : stepsDone quota d ≡ stepsLeft d = omega (arith, within-most longest d) in
-    rw all (left-ends-by d _ refl)
+    rw all (left-ends d)
+
+-- the steps done come to the quota: past the end of a job, steps change nothing
+quota-by : (n : ℕ) (d : Device) (b : Bool) → ltb n (stepsLeft d) ≡ b → run (stepsDone n d) d ≡ run n d
+quota-by n d true l =
+    let all : stepsDone n d ≡ n = omega (arith, ltb-true n (stepsLeft d) l) in
+    ap (λ (m : ℕ). run m d) all
+quota-by n d false l =
+    let left = stepsLeft d in
+    let least = ltb-false n left l in
+    let done : stepsDone n d ≡ left = omega (arith, least) in
+    let more : n ≡ (n - left) + left = omega (arith, least) in
+    ap (λ (m : ℕ). run m d) done
+    ∙ sym (ap (λ (m : ℕ). run m d) more ∙ run-add (n - left) left d ∙ run-idle (n - left) (run left d) (left-ends d))
+
+pub work-quota : (n : ℕ) (d : Device) → run (stepsDone n d) d ≡ run n d
+work-quota n d = quota-by n d _ refl
