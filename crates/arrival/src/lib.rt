@@ -31,7 +31,7 @@ fn status_on_arrival(image: &[u8], s: State, frame: &[u8]) -> u8
     let counter = words::byte(frame, 2);
     let slot = image::slot_of(image, counter);
     let key = state::session_key(s, counter);
-    let count = words::get(image, 0);
+    let count = image::count(image);
     checks::arrival_status(frame, count, slot, key.there)
 }
 

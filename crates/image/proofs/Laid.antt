@@ -1,17 +1,21 @@
--- Images with the same header, and images that refusals 1 to 3 let through: where their slots stand. Assumes nothing.
-use Prim.Native.Nat.{ℕ, _+_, _*_, _%_, _≤_}
+-- Images with the same header, and images that refusals 1 to 3 let through: where their slots stand. Nothing here or above asks which
+-- sizes a slot may have, but `wide`. Assumes nothing.
+use Prim.Native.Nat.{ℕ, suc, _+_, _*_, _≤_, _<_}
 use mathlib.Core.Path.{_≡_, refl, sym, _∙_}
-use mathlib.Core.Bool.{Bool, true, false}
+use mathlib.Core.Bool.{Bool, true, false, not}
+use mathlib.Core.Logic.{inl}
 use mathlib.Core.List.{List}
+use native.Mathlib.Nat.{mul-suc, mul-le-mul-left}
 use native.Mathlib.Omega.{arith}
-use borrow.Author.Tests.{ltb-false, eqb-true}
+use borrow.Author.Tests.{ltb-false, eqb-true, not-false}
 use lib.Dec.{ltb, eqb}
 use lib.ListN.{length}
 use Rattle.words.specs.Choice.{pick}
 use Rattle.words.specs.Words.{putWord}
+use Rattle.words.proofs.Rows.{none-fails, no-test}
 use Rattle.words.proofs.Puts.{length-put, word-kept}
 use Rattle.image.specs.Header.{count, offset, slotSize, total, slotAt}
-use Rattle.image.specs.Refusal.{layoutRefusal, headerRefusal, refusal}
+use Rattle.image.specs.Refusal.{isSize, refusals, refusal}
 
 -- the words of a header stand before all stores
 pub record SameHeader (a b : List ℕ) : Type 0 where
@@ -43,70 +47,67 @@ pub header-put : (l : List ℕ) (j w : ℕ) → 16 ≤ j → SameHeader (putWord
 header-put l j w h =
     record {
       size = length-put l j w;
-      counters = word-kept l 0 j w (omega arith);
-      first = word-kept l 4 j w (omega arith);
-      each = word-kept l 8 j w (omega arith);
-      all = word-kept l 12 j w (omega arith);
-    }
-
--- an image that the device accepts: what refusals 1 to 3 leave
-pub record Laid (image : List ℕ) : Type 0 where
-  pub each : slotSize image ≡ 48
-  pub first : 16 ≤ offset image
-  pub fits : offset image + 48 * count image ≤ length image
-  pub few : count image ≤ 4
-
-pub same-laid : (a b : List ℕ) → SameHeader a b → Laid b → Laid a
-same-laid a b h laid =
-    record {
-      each = h .each ∙ laid .each;
-      first = rw (h .first) (laid .first);
-      fits = rw (h .first, h .counters, h .size) (laid .fits);
-      few = rw (h .counters) (laid .few);
+      counters = word-kept l 0 j w (inl (omega arith));
+      first = word-kept l 4 j w (inl (omega arith));
+      each = word-kept l 8 j w (inl (omega arith));
+      all = word-kept l 12 j w (inl (omega arith));
     }
 
 pub same-place : (a b : List ℕ) (c : ℕ) → SameHeader a b → slotAt a c ≡ slotAt b c
 unfolding slotAt
 same-place a b c h = rw (h .first, h .each)
 
--- where a slot stands
-pub place : (image : List ℕ) (c : ℕ) → Laid image → slotAt image c ≡ offset image + 48 * c
-unfolding slotAt
-place image c laid = rw (laid .each)
-
--- what refusals 1 to 3 leave of an image
-accepted-by :
-    (a b c d e f g h i : Bool) →
-    pick {A = ℕ} a 1 (pick b 1 (pick c (pick d 2 (pick e 2 (pick f 3 (pick g (pick h (pick i 3 0) 3) 3)))) 1)) ≡ 0 →
-    (c ≡ true) × (e ≡ false) × (f ≡ false) × (h ≡ true) × (i ≡ false)
-unfolding pick
-accepted-by true b c d e f g h i z = absurd (omega (arith, z))
-accepted-by false true c d e f g h i z = absurd (omega (arith, z))
-accepted-by false false false d e f g h i z = absurd (omega (arith, z))
-accepted-by false false true true e f g h i z = absurd (omega (arith, z))
-accepted-by false false true false true f g h i z = absurd (omega (arith, z))
-accepted-by false false true false false true g h i z = absurd (omega (arith, z))
-accepted-by false false true false false false false h i z = absurd (omega (arith, z))
-accepted-by false false true false false false true false i z = absurd (omega (arith, z))
-accepted-by false false true false false false true true true z = absurd (omega (arith, z))
-accepted-by false false true false false false true true false z = (refl, refl, refl, refl, refl)
-
-pub accepted-laid : (image : List ℕ) → refusal image ≡ 0 → Laid image
-unfolding refusal headerRefusal layoutRefusal
-accepted-laid image z =
-    let t =
-    accepted-by (ltb (length image) 16) (ltb 65536 (length image)) (eqb (total image) (length image)) (eqb (count image) 0)
-    (ltb 4 (count image)) (ltb (offset image) 16) (eqb (offset image % 4) 0) (eqb (slotSize image) 48)
-    (ltb (total image) (offset image + 48 * count image)) z in
-    let size = eqb-true (total image) (length image) (t .0) in
-    let fits = ltb-false (total image) (offset image + 48 * count image) (t .4) in
-    record {
-      each = eqb-true (slotSize image) 48 (t .3);
-      first = ltb-false (offset image) 16 (t .2);
-      fits = omega (arith, size, fits);
-      few = ltb-false 4 (count image) (t .1);
-    }
-
 pub same-refusal : (a b : List ℕ) → SameHeader a b → refusal a ≡ refusal b
 unfolding refusal
 same-refusal a b h = rw (h .all, h .counters, h .first, h .each, h .size)
+
+-- an image that the device accepts: what refusals 1 to 3 leave
+pub record Laid (image : List ℕ) : Type 0 where
+  pub each : isSize (slotSize image) ≡ true
+  pub first : 16 ≤ offset image
+  pub fits : offset image + slotSize image * count image ≤ length image
+  pub few : count image ≤ 4
+
+pub same-laid : (a b : List ℕ) → SameHeader a b → Laid b → Laid a
+same-laid a b h laid =
+    record {
+      each = rw (h .each) (laid .each);
+      first = rw (h .first) (laid .first);
+      fits = rw (h .each, h .first, h .counters, h .size) (laid .fits);
+      few = rw (h .counters) (laid .few);
+    }
+
+pub accepted-laid : (image : List ℕ) → refusal image ≡ 0 → Laid image
+unfolding refusal pick
+accepted-laid image z =
+    let row = none-fails (refusals (length image) (count image) (offset image) (slotSize image) (total image)) refl z in
+    let size = eqb-true (total image) (length image) (not-false _ (no-test _ (row 0) 2)) in
+    let fits = ltb-false (total image) (offset image + slotSize image * count image) (no-test _ (row 2) 3) in
+    record {
+      each = not-false _ (no-test _ (row 2) 2);
+      first = ltb-false (offset image) 16 (no-test _ (row 2) 0);
+      fits = omega (arith, size, fits);
+      few = ltb-false 4 (count image) (no-test _ (row 1) 1);
+    }
+
+-- every slot has at least the 48 bytes of its front
+pub wide : (image : List ℕ) → Laid image → 48 ≤ slotSize image
+unfolding isSize
+wide image laid = let e = eqb-true (slotSize image) 48 (laid .each) in omega (arith, e)
+
+-- one slot more
+one-more : (s m n : ℕ) → m < n → s * m + s ≤ s * n
+one-more s m n h = rw (← mul-suc s m) (mul-le-mul-left s h)
+
+-- slots stand behind the header, inside the image, and one behind the other
+pub behind : (image : List ℕ) (c : ℕ) → Laid image → 16 ≤ slotAt image c
+unfolding slotAt
+behind image c laid = omega (arith, laid .first)
+
+pub room : (image : List ℕ) (c : ℕ) → Laid image → c < count image → slotAt image c + slotSize image ≤ length image
+unfolding slotAt
+room image c laid below = omega (arith, laid .fits, one-more (slotSize image) c (count image) below)
+
+pub in-order : (image : List ℕ) (c d : ℕ) → c < d → slotAt image c + slotSize image ≤ slotAt image d
+unfolding slotAt
+in-order image c d h = omega (arith, one-more (slotSize image) c d h)

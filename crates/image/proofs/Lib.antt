@@ -1,4 +1,4 @@
--- Images by their layout, slots by their bytes, and that each public function has one answer only.
+-- Images by their layout, slots by their words and their front, and that each public function has one answer only.
 pub mod Laid
 pub mod Slots
 pub mod OneAnswer

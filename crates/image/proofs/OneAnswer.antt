@@ -1,11 +1,15 @@
 -- One answer only, for each public function of this crate. Assumes nothing.
 use mathlib.Core.Path.{sym, _∙_}
 use Rattle.words.proofs.Unique.{OneResult}
+use Rattle.image.proofs.count.Reads as count-reads
 use Rattle.image.proofs.refusal.Reads as refusal-reads
 use Rattle.image.proofs.slot_at.Reads as slot-at-reads
 use Rattle.image.proofs.slot_of.Reads as slot-of-reads
 use Rattle.image.proofs.is_bad.Reads as is-bad-reads
 use Rattle.image.proofs.root_key.Reads as root-key-reads
+
+count-one : OneResult count-reads.Post
+count-one κs a x y s t p q = p ∙ sym q
 
 refusal-one : OneResult refusal-reads.Post
 refusal-one κs a x y s t p q = p ∙ sym q

@@ -1,8 +1,9 @@
 // The counter image: its header, refusals 1 to 3, and its slots. Contracts cite specs/, in document 01's words.
 ghost use mathlib.Core.Path.{_≡_};
 ghost use Prim.Native.Nat.{_<_, _^_};
-ghost use Rattle.image.specs.Header.{slotAt};
-ghost use Rattle.image.specs.Refusal.{layoutRefusal, headerRefusal, refusal};
+ghost use Rattle.words.specs.Rows.{firstFailing};
+ghost use Rattle.image.specs.Header.{count, slotAt};
+ghost use Rattle.image.specs.Refusal.{isSize, refusals, refusal};
 ghost use Rattle.image.specs.Slot.{slotOf, isState, isBad, rootKey};
 
 // The three words of a slot that are no key.
@@ -12,57 +13,64 @@ pub struct Slot {
     pub value: u32,
 }
 
-// Refusal 3, of the four words of the header; the sum is exact, in 64 bits.
-fn layout_refusal(count: u32, offset: u32, size: u32, total: u32) -> u32
-    ensures { λ r. ⌜ r ≡ layoutRefusal count offset size total ⌝ }
+// Whether there are slots of so many bytes.
+fn is_size(size: u32) -> bool
+    ensures { λ r. ⌜ r ≡ isSize size ⌝ }
 {
-    if offset < 16 {
-        return 3;
-    }
-    if offset % 4 != 0 {
-        return 3;
-    }
-    if size != 48 {
-        return 3;
-    }
-    if (total as u64) < offset as u64 + 48 * count as u64 {
-        return 3;
-    }
-    0
+    size == 48
 }
 
-// Refusals 2 and 3, of the four words of the header.
-fn header_refusal(count: u32, offset: u32, size: u32, total: u32) -> u32
-    ensures { λ r. ⌜ r ≡ headerRefusal count offset size total ⌝ }
+// Refusals 1 to 3, of the image's length and the four words of its header; the sum is exact, in 64 bits.
+fn refusal_of(length: usize, count: u32, offset: u32, size: u32, total: u32) -> u32
+    ensures { λ r. ⌜ r ≡ firstFailing (refusals length count offset size total) ⌝ }
 {
+    if length < 16 {
+        return 1;
+    }
+    if 65536 < length {
+        return 1;
+    }
+    if total as usize != length {
+        return 1;
+    }
     if count == 0 {
         return 2;
     }
     if 4 < count {
         return 2;
     }
-    layout_refusal(count, offset, size, total)
+    if offset < 16 {
+        return 3;
+    }
+    if offset % 4 != 0 {
+        return 3;
+    }
+    if !is_size(size) {
+        return 3;
+    }
+    if (total as u64) < offset as u64 + size as u64 * count as u64 {
+        return 3;
+    }
+    0
+}
+
+// The number of counters: word 0 of the header.
+pub fn count(image: &[u8]) -> u32
+    ensures { λ r. ⌜ r ≡ count (now (image .entry)) ⌝ }
+{
+    words::get(image, 0)
 }
 
 // Refusals 1 to 3, in order; 0 if the image is accepted.
 pub fn refusal(image: &[u8]) -> u32
     ensures { λ r. ⌜ r ≡ refusal (now (image .entry)) ⌝ }
 {
-    if image.len() < 16 {
-        return 1;
-    }
-    if 65536 < image.len() {
-        return 1;
-    }
-    let total = words::get(image, 12);
-    if total as usize != image.len() {
-        return 1;
-    }
-    header_refusal(
-        words::get(image, 0),
+    refusal_of(
+        image.len(),
+        count(image),
         words::get(image, 4),
         words::get(image, 8),
-        total,
+        words::get(image, 12),
     )
 }
 

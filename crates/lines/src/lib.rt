@@ -38,7 +38,7 @@ pub fn first_image() -> [u8; 208]
 pub fn first_line(image: &[u8], out: &mut [u8; 517]) -> usize
     ensures { λ r. ⌜ (r ≡ length (countLine (now (image .entry)))) × (now (out .exit) ≡ printed (countLine (now (image .entry))) (now (out .entry))) ⌝ }
 {
-    printing::decimal_line(b"counters ", words::get(image, 0), out)
+    printing::decimal_line(b"counters ", image::count(image), out)
 }
 
 // Any other line: `?`, and nothing is touched.

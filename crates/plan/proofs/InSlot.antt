@@ -1,18 +1,19 @@
 -- Several stores in a counter's slot: what they make of its bytes, and that they leave the other slots and the header. Assumes
 -- nothing.
-use Prim.Native.Nat.{ℕ, zero, suc, _+_, _<_}
+use Prim.Native.Nat.{ℕ, zero, suc, _+_, _≤_, _<_}
 use mathlib.Core.Path.{_≡_, refl, ap, _∙_}
 use mathlib.Core.Bool.{Bool, true, false}
 use mathlib.Core.List.{List, [], _∷_}
+use native.Mathlib.Omega.{arith}
 use borrow.Author.Tests.{leb-true}
 use lib.Dec.{leb}
 use lib.ListN.{take}
 use Rattle.words.specs.Choice.{pick}
 use Rattle.words.specs.Words.{putWord}
 use Rattle.words.proofs.Choice.{both}
-use Rattle.image.specs.Header.{count}
-use Rattle.image.proofs.Laid.{SameHeader, same-header, then-header, Laid, same-laid}
-use Rattle.image.proofs.Slots.{slotBytes, header-stored, slot-stored, slot-other}
+use Rattle.image.specs.Header.{count, slotSize}
+use Rattle.image.proofs.Laid.{SameHeader, same-header, then-header, Laid, same-laid, wide}
+use Rattle.image.proofs.Slots.{slotBytes, header-stored, front-stored, front-other}
 use Rattle.jobs.specs.declared.Kind.{Kind}
 use Rattle.jobs.specs.declared.Kind.the-variants.{RootKeyAndCounter, RootKey, CounterOnly, Nothing, SessionKey, Increment, Request}
 use Rattle.plan.specs.declared.Store.{Store}
@@ -40,15 +41,16 @@ unfolding allStored stored putAll allInside
 all-stored [] image c laid below inside = record { header = same-header image; own = refl; other = λ k apart. refl }
 all-stored (store ∷ more) image c laid below inside =
     let parts = both (leb (store .at + 4) 48) (allInside more) inside in
-    let fits = leb-true (store .at + 4) 48 (parts .0) in
+    let front = leb-true (store .at + 4) 48 (parts .0) in
+    let fits : store .at + 4 ≤ slotSize image = omega (arith, front, wide image laid) in
     let head = header-stored image c (store .at) (store .word) laid below fits in
     let rest =
     all-stored more (stored image c store) c (same-laid (stored image c store) image head laid) (rw (head .counters) below)
     (parts .1) in
     record {
       header = then-header _ _ _ (rest .header) head;
-      own = rest .own ∙ ap (putAll more) (slot-stored image c (store .at) (store .word) laid below fits);
-      other = λ k apart. rest .other k apart ∙ slot-other image c (store .at) (store .word) laid below fits k apart;
+      own = rest .own ∙ ap (putAll more) (front-stored image c (store .at) (store .word) laid below fits front);
+      other = λ k apart. rest .other k apart ∙ front-other image c (store .at) (store .word) laid below fits k apart;
     }
 
 -- the first of some stores

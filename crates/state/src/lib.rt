@@ -156,5 +156,5 @@ pub fn refusal(image: &[u8], s: State) -> u32
     if number != 0 {
         return number;
     }
-    job_refusal(words::get(image, 0), s)
+    job_refusal(image::count(image), s)
 }

@@ -7,7 +7,7 @@ use borrow.Author.Tests.{le-leb, lt-leb}
 use lib.ListN.{length, List·getD-append}
 use lib.Seq.{sets}
 use Rattle.words.specs.Choice.{pick}
-use Rattle.words.specs.Words.{wordAt, wordsOf, putWord, wordOr0, withWord, placed}
+use Rattle.words.specs.Words.{wordAt, wordsOf, putWord, wordOr0, withWord, withBytes}
 use Rattle.words.proofs.Table.{table-same}
 
 module _ (s : List ℕ) (at : ℕ) (h : at + 4 ≤ length s) where
@@ -30,11 +30,11 @@ module _ (s : List ℕ) (at : ℕ) (h : length s < at + 4) where
   put-outside w = rw (lt-leb (at + 4) (length s) h)
 
 -- bytes in a row, likewise
-pub place-inside : (s : List ℕ) (at : ℕ) (bytes : List ℕ) → at + length bytes ≤ length s → placed s at bytes ≡ sets s at bytes
+pub place-inside : (s : List ℕ) (at : ℕ) (bytes : List ℕ) → at + length bytes ≤ length s → withBytes s at bytes ≡ sets s at bytes
 unfolding pick
 place-inside s at bytes h = rw (le-leb (at + length bytes) (length s) h)
 
-pub place-outside : (s : List ℕ) (at : ℕ) (bytes : List ℕ) → length s < at + length bytes → placed s at bytes ≡ s
+pub place-outside : (s : List ℕ) (at : ℕ) (bytes : List ℕ) → length s < at + length bytes → withBytes s at bytes ≡ s
 unfolding pick
 place-outside s at bytes h = rw (lt-leb (at + length bytes) (length s) h)
 

@@ -4,6 +4,7 @@ pub mod Unique
 pub mod Spread
 pub mod Back
 pub mod Choice
+pub mod Rows
 pub mod Filling
 pub mod Inside
 pub mod Table

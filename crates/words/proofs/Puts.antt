@@ -1,17 +1,20 @@
--- What a stored word changes of a field: inside it these four bytes, outside nothing; and it leaves the words before it. Assumes
--- nothing.
+-- What a stored word changes of a field: inside it these four bytes, outside nothing; and what it changes of the words: the one at
+-- its place is the word stored, and one that is apart from it stays. Assumes nothing.
 use Prim.Native.Nat.{ℕ, _+_, _/_, _%_, _≤_, _<_}
-use mathlib.Core.Path.{_≡_, refl, sym, _∙_}
-use mathlib.Core.Logic.{⊎-elim, _⊎_}
+use mathlib.Core.Path.{_≡_, refl, ap, sym, _∙_}
+use mathlib.Core.Logic.{⊎-elim, _⊎_, inl, inr}
 use mathlib.Core.Bool.{Bool, true, false}
 use mathlib.Core.List.{List}
 use native.Mathlib.Omega.{arith}
-use borrow.Author.Tests.{eqb-true, eqb-false}
+use borrow.Author.Tests.{eqb-true, eqb-false, le-leb}
 use lib.Dec.{eqb}
 use lib.ListN.{length, getD, set, length-set}
 use lib.Seq.{ext-getD, getD-set-same, getD-set-other}
-use Rattle.words.specs.Table.{field}
-use Rattle.words.specs.Words.{wordOr0, putWord}
+use Rattle.words.specs.Choice.{pick}
+use Rattle.words.specs.Table.{table, field}
+use Rattle.words.specs.Words.{bytesOf, inside, wordAt, wordOr0, putWord, withWord}
+use Rattle.words.proofs.Choice.{either}
+use Rattle.words.proofs.Fields.{field-word}
 use Rattle.words.proofs.Table.{length-table, table-same, getD-table}
 
 -- one byte of a field after a byte is stored inside it
@@ -83,23 +86,42 @@ pub length-put : (l : List ℕ) (j w : ℕ) → length (putWord l j w) ≡ lengt
 unfolding putWord
 length-put l j w = simp length-set
 
--- a byte and a word before a store
-byte-kept : (l : List ℕ) (j w i : ℕ) → i < j → getD (putWord l j w) i 0 ≡ getD l i 0
-unfolding putWord
-byte-kept l j w i h =
-    rw (
-      getD-set-other (set (set (set l j (w / 16777216)) (j + 1) (w / 65536 % 256)) (j + 2) (w / 256 % 256)) (j + 3) i (w % 256) 0 (λ e. omega (arith, e)),
-      getD-set-other (set (set l j (w / 16777216)) (j + 1) (w / 65536 % 256)) (j + 2) i (w / 256 % 256) 0 (λ e. omega (arith, e)),
-      getD-set-other (set l j (w / 16777216)) (j + 1) i (w / 65536 % 256) 0 (λ e. omega (arith, e)),
-      getD-set-other l j i (w / 16777216) 0 (λ e. omega (arith, e)),
-    )
+-- two words that have no byte in common
+abbrev pub Apart : ℕ → ℕ → Type 0
+Apart i j = (i + 4 ≤ j) ⊎ (j + 4 ≤ i)
 
-pub word-kept : (l : List ℕ) (k j w : ℕ) → k + 4 ≤ j → wordOr0 (putWord l j w) k ≡ wordOr0 l k
-word-kept l k j w h =
-    rw (
-      length-put l j w,
-      byte-kept l j w k (omega arith),
-      byte-kept l j w (k + 1) (omega arith),
-      byte-kept l j w (k + 2) (omega arith),
-      byte-kept l j w (k + 3) (omega arith),
-    )
+-- a word by its field of four bytes
+word-field : (s : List ℕ) (i : ℕ) → wordAt s i ≡ wordAt (field i 4 s) 0
+word-field s i = ap (wordAt s) (omega arith) ∙ sym (field-word i 4 s 0 (omega arith))
+
+-- the four bytes at the place of a store
+four-bytes : (f : ℕ → ℕ) (w : ℕ) → putWord (table f 4) 0 w ≡ bytesOf w
+unfolding table putWord
+four-bytes f w = refl
+
+field-stored : (s : List ℕ) (j w : ℕ) → j + 4 ≤ length s → field j 4 (putWord s j w) ≡ bytesOf w
+field-stored s j w h =
+    ap (λ (k : ℕ). field j 4 (putWord s k w)) (omega arith)
+    ∙ field-put-in j 4 0 w s (omega arith) h ∙ four-bytes (λ i. getD s (j + i) 0) w
+
+word-stored : (s : List ℕ) (j w : ℕ) → j + 4 ≤ length s → wordAt (putWord s j w) j ≡ w
+word-stored s j w h = word-field (putWord s j w) j ∙ ap (λ (l : List ℕ). wordAt l 0) (field-stored s j w h) ∙ omega arith
+
+-- the word at the place of a store
+pub word-same : (s : List ℕ) (j w : ℕ) → j + 4 ≤ length s → wordOr0 (withWord s j w) j ≡ w
+unfolding pick
+word-same s j w h =
+    rw (le-leb (j + 4) (length s) h, length-put s j w, le-leb (j + 4) (length s) h) (word-stored s j w h)
+
+-- a word apart from a store
+pub word-kept : (s : List ℕ) (i j w : ℕ) → Apart i j → wordOr0 (putWord s j w) i ≡ wordOr0 s i
+word-kept s i j w apart =
+    let same : field i 4 (putWord s j w) ≡ field i 4 s =
+    field-put-out i 4 j w s (⊎-elim (λ (before : i + 4 ≤ j). inr before) (λ (behind : j + 4 ≤ i). inl behind) apart) in
+    rw (length-put s j w)
+    (ap (λ (word : ℕ). pick (inside s i) word 0)
+    (word-field (putWord s j w) i ∙ ap (λ (l : List ℕ). wordAt l 0) same ∙ sym (word-field s i)))
+
+pub word-apart : (s : List ℕ) (i j w : ℕ) → Apart i j → wordOr0 (withWord s j w) i ≡ wordOr0 s i
+word-apart s i j w apart =
+    either (λ (l : List ℕ). wordOr0 l i ≡ wordOr0 s i) (inside s j) (putWord s j w) s (λ _. word-kept s i j w apart) (λ _. refl)

@@ -6,7 +6,7 @@ use native.Mathlib.Numerals.{add-one}
 use native.Mathlib.Omega.{arith}
 use lib.ListN.{length, getD, take, drop, set, drop-of-length-le, length-append}
 use lib.Seq.{sets, sets-eq, length-sets, take-suc, take-at, length-take-le}
-use Rattle.words.specs.Words.{placed}
+use Rattle.words.specs.Words.{withBytes}
 use Rattle.words.proofs.Inside.{place-inside}
 
 -- the next run is stored where the first one ends
@@ -34,10 +34,10 @@ sets-front l v h =
 pub sets-all : (l v : List ℕ) → length v ≡ length l → sets l 0 v ≡ v
 sets-all l v e = sets-front l v (omega arith) ∙ rw (drop-of-length-le l {i = length v} (omega arith)) (append-nil v)
 
--- the same of bytes that are placed, where they are all inside
+-- the same of bytes stored in a row, where they are all inside
 pub place-append :
     (l : List ℕ) (i n : ℕ) (v w : List ℕ) → length v ≡ n → i + n + length w ≤ length l →
-    placed (placed l i v) (i + n) w ≡ placed l i (v ++ w)
+    withBytes (withBytes l i v) (i + n) w ≡ withBytes l i (v ++ w)
 place-append l i n v w e fits =
     rw (
       place-inside l i v (omega (arith, e)),
@@ -46,11 +46,11 @@ place-append l i n v w e fits =
     )
     (sets-append l i n v w e)
 
-pub place-front : (l v : List ℕ) → length v ≤ length l → placed l 0 v ≡ v ++ drop (length v) l
+pub place-front : (l v : List ℕ) → length v ≤ length l → withBytes l 0 v ≡ v ++ drop (length v) l
 place-front l v h = place-inside l 0 v (omega arith) ∙ sets-front l v h
 
-pub take-placed : (l v : List ℕ) (n : ℕ) → length v ≡ n → n ≤ length l → take n (placed l 0 v) ≡ v
-take-placed l v n e h = rw (place-front l v (omega arith)) (take-at v (drop (length v) l) n e)
+pub take-front : (l v : List ℕ) (n : ℕ) → length v ≡ n → n ≤ length l → take n (withBytes l 0 v) ≡ v
+take-front l v n e h = rw (place-front l v (omega arith)) (take-at v (drop (length v) l) n e)
 
-pub place-all : (l v : List ℕ) → length v ≡ length l → placed l 0 v ≡ v
+pub place-all : (l v : List ℕ) → length v ≡ length l → withBytes l 0 v ≡ v
 place-all l v e = place-inside l 0 v (omega arith) ∙ sets-all l v e

@@ -45,5 +45,5 @@ abbrev pub withWord : List ℕ → ℕ → ℕ → List ℕ
 withWord s at w = pick (inside s at) (putWord s at w) s
 
 -- storing: the list with bytes from a place on, or as it was where they are not all inside
-abbrev pub placed : List ℕ → ℕ → List ℕ → List ℕ
-placed s at bytes = pick (leb (at + length bytes) (length s)) (sets s at bytes) s
+abbrev pub withBytes : List ℕ → ℕ → List ℕ → List ℕ
+withBytes s at bytes = pick (leb (at + length bytes) (length s)) (sets s at bytes) s

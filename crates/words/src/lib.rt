@@ -6,7 +6,7 @@ ghost use Prim.Native.Nat.{_+_, _<_, _≤_};
 ghost use lib.ListN.{length, getD};
 ghost use lib.Seq.{sets};
 ghost use Rattle.words.specs.Table.{field};
-ghost use Rattle.words.specs.Words.{wordOf, bytesOf, wordOr0, withWord, placed};
+ghost use Rattle.words.specs.Words.{wordOf, bytesOf, wordOr0, withWord, withBytes};
 
 // A byte as a word. A cast of its own, so that its bound is shown once.
 fn wide(b: u8) -> u32
@@ -112,7 +112,7 @@ fn place_inside(bytes: &[u8], at: usize, out: &mut [u8])
 
 // Stores bytes from a place of a slice on: these bytes and no other, and nothing where they are not all inside.
 pub fn place(bytes: &[u8], at: usize, out: &mut [u8])
-    ensures { λ _. ⌜ now (out .exit) ≡ placed (now (out .entry)) at (now (bytes .entry)) ⌝ }
+    ensures { λ _. ⌜ now (out .exit) ≡ withBytes (now (out .entry)) at (now (bytes .entry)) ⌝ }
 {
     if out.len() < at {
         return;

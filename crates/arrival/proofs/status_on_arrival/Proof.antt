@@ -13,7 +13,7 @@ returns c =
       ← byte .ensures,
       ← slot-of .ensures,
       ← c .before .before .session-key .ensures,
-      ← c .before .get .ensures,
+      ← c .before .count .ensures,
     )
     (c .arrival-status .ensures)
 

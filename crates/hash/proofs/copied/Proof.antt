@@ -1,4 +1,4 @@
--- `copied` meets its contract: the message is placed at the front. Assumes nothing.
+-- `copied` meets its contract: the message is stored at the front. Assumes nothing.
 use borrow.Author.Needs.{needs}
 use native.Mathlib.Omega.{arith}
 use mathlib.Core.Path.{_∙_}

@@ -16,7 +16,7 @@ counters n = (99 ∷ 111 ∷ 117 ∷ 110 ∷ 116 ∷ 101 ∷ 114 ∷ 115 ∷ 32 
 returns : tie.Need-returns
 unfolding countLine
 returns c =
-    let count = c .before .before .get .ensures in
+    let count = c .before .before .count .ensures in
     let out = c .before .before .before .before .before .args .out .now in (
       c .decimal-line .ensures .0 ∙ ap (λ (n : ℕ). length (counters n)) count,
       c .decimal-line .ensures .1 ∙ ap (λ (n : ℕ). printed (counters n) out) count,

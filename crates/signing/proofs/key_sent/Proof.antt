@@ -1,4 +1,4 @@
--- `key_sent` meets its contract: the key is placed at the front. Assumes nothing.
+-- `key_sent` meets its contract: the key is stored at the front. Assumes nothing.
 use borrow.Author.Needs.{needs}
 use native.Mathlib.Omega.{arith}
 use Rattle.words.specs.Choice.{pick}

@@ -1,4 +1,4 @@
--- `tag_and_value` meets its contract: the tag is placed at the front, and the value's word is stored behind it. Assumes nothing.
+-- `tag_and_value` meets its contract: the tag is stored at the front, and the value behind it. Assumes nothing.
 use borrow.Author.Needs.{needs}
 use native.Mathlib.Omega.{arith}
 use Rattle.words.specs.Choice.{pick}

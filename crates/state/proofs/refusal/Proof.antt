@@ -17,7 +17,7 @@ returns-2 c =
     rw (
       ← refusal-call .ensures,
       eq-eqb (refusal-call .result) 0 (c .before .before .if1 .left),
-      ← c .before .get .ensures,
+      ← c .before .count .ensures,
     )
     (c .job-refusal .ensures)
 
