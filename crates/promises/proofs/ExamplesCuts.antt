@@ -17,7 +17,7 @@ use Rattle.checks.specs.Layout.{counterOf}
 use Rattle.plan.specs.declared.Store.{Store}
 use Rattle.plan.specs.Stores.{keyStores, stores}
 use Rattle.plan.specs.Storing.{allStored}
-use Rattle.plan.proofs.InSlot.{allInside, putAll, all-stored}
+use Rattle.plan.proofs.InSlot.{putAll, some-made}
 use Rattle.arrival.specs.Arrival.{frameKept}
 use Rattle.device.specs.Work.{Device}
 use Rattle.promises.specs.Compared.{Counter, counterIn}
@@ -46,27 +46,27 @@ module _ (d : Device) (ready : Ready d) (frame : List ℕ) (p : Pairs d frame) w
   abbrev imageAt : ℕ → List ℕ
   imageAt m = allStored (take m plan) (d .image) c
 
-  shown : (m : ℕ) → allInside (take m plan) ≡ true → counterIn (imageAt m) c ≡ readCounter (putAll (take m plan) (slotBytes (d .image) c))
-  shown m inside =
-      let made = all-stored (take m plan) (d .image) c laid below inside in
+  shown : (m : ℕ) → counterIn (imageAt m) c ≡ readCounter (putAll (take m plan) (slotBytes (d .image) c))
+  shown m =
+      let made = some-made RootKeyAndCounter (frameKept frame) 0 (d .image) c laid below m in
       counter-read (imageAt m) c (same-laid (imageAt m) (d .image) (made .header) laid) (rw (made .header .counters) below)
       ∙ ap readCounter (made .own)
 
   pub cut-after-14 : Seen P10-cut-after-14 d frame (allCalled (script P10-cut-after-14 frame) d)
-  unfolding allCalled allInside putAll putWord keyStores table readCounter counterIn pick
+  unfolding allCalled putAll putWord keyStores table readCounter counterIn pick
   cut-after-14 =
       let after = ap (λ (x : Device). x .image) (pairing d ready frame p 10 ∙ some-stored _ _ _ _ _ _ _ _ _ 10 (omega arith)) in
-      let now = shown 10 refl in
+      let now = shown 10 in
       let set : slotOf (imageAt 10) c .counter ≡ 0 = ap (λ (x : Counter). x .counter) now in
       let value : slotOf (imageAt 10) c .value ≡ 0 = rw set at (ap (λ (x : Counter). x .value) now) in
       let root = ap (λ (x : Counter). x .root) now ∙ found-unset in
       rw after (set, value, root)
 
   pub cut-after-13 : Seen P10-cut-after-13 d frame (allCalled (script P10-cut-after-13 frame) d)
-  unfolding allCalled allInside putAll putWord keyStores table readCounter counterIn pick
+  unfolding allCalled putAll putWord keyStores table readCounter counterIn pick
   cut-after-13 =
       let after = ap (λ (x : Device). x .image) (pairing d ready frame p 9 ∙ some-stored _ _ _ _ _ _ _ _ _ 9 (omega arith)) in
-      let now = shown 9 refl in
+      let now = shown 9 in
       let counter = ap (λ (x : Counter). x .counter) now ∙ sym (counter-in (d .image) c laid below) ∙ p .counter in
       let root = ap (λ (x : Counter). x .root) now ∙ found-unset in
       rw after (counter, root)
