@@ -20,8 +20,8 @@ use Rattle.state.specs.Parts.{noKey}
 use Rattle.arrival.specs.Arrival.{statusOnArrival}
 use Rattle.device.specs.Work.{Device}
 use Rattle.rules.specs.Whole.{outcome, kindIn, newKey, failedWith, keysAfter, carriedOut, whole}
+use Rattle.rules.proofs.Taken.{below-count, one-end}
 use Rattle.promises.specs.Compared.{counterIn, Alike}
-use Rattle.promises.proofs.Taken.{below-count, one-end}
 use Rattle.promises.proofs.Own.{SameTo}
 use Rattle.promises.proofs.WholeOwn.{Formed, Kept, whole-kept, SameBy, whole-same}
 

@@ -25,10 +25,10 @@ use Rattle.plan.proofs.InSlot.{putAll, InSlot, made, some-made}
 use Rattle.plan.proofs.Plans.{plan-length}
 use Rattle.arrival.specs.Arrival.{frameKept}
 use Rattle.rules.specs.Whole.{Outcome, kindIn}
+use Rattle.rules.proofs.Taken.{Facts, below-count, facts}
 use Rattle.promises.specs.Compared.{Counter, counterIn}
 use Rattle.promises.specs.Account.{Account, hasSet, setTo0, interrupted}
 use Rattle.promises.proofs.Counters.{readCounter, counter-read}
-use Rattle.promises.proofs.Taken.{Facts, below-count, facts}
 use Rattle.promises.proofs.WholeOwn.{own-after, other-after}
 use Rattle.promises.proofs.Cuts.{zeroed, Known, Cut, cut-off}
 use Rattle.promises.proofs.Sound.{Working}

@@ -1,6 +1,5 @@
 -- The promises, proved.
 pub mod Counters
-pub mod Taken
 pub mod Own
 pub mod WholeOwn
 pub mod Cuts

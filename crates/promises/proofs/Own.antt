@@ -21,8 +21,8 @@ use Rattle.decision.specs.Decision.{decision}
 use Rattle.arrival.specs.Arrival.{statusOnArrival}
 use Rattle.device.specs.Work.{Device}
 use Rattle.rules.specs.Whole.{kindIn, keyThere, newKey, lastChecks, allChecks}
+use Rattle.rules.proofs.Taken.{Facts, below-count, facts}
 use Rattle.promises.specs.Compared.{Counter, counterIn}
-use Rattle.promises.proofs.Taken.{Facts, below-count, facts}
 
 -- two devices that are the same to a frame: the header, its counter as it is compared, and its session key
 pub record SameTo (frame : List ℕ) (d e : Device) : Type 0 where

@@ -25,9 +25,9 @@ use Rattle.steps.specs.Deciding.{keptAfter}
 use Rattle.arrival.specs.Arrival.{frameKept, statusOnArrival}
 use Rattle.device.specs.Work.{Device}
 use Rattle.rules.specs.Whole.{Outcome, kindIn, valueIn, allChecks, failedWith, keysAfter, replyAfter, imageAfter, carriedOut, whole}
+use Rattle.rules.proofs.Taken.{Facts, below-count, facts, or-zero, one-end}
 use Rattle.promises.specs.Compared.{counterIn}
 use Rattle.promises.proofs.Counters.{readCounter, counter-read, counterAfter, after-stores}
-use Rattle.promises.proofs.Taken.{Facts, below-count, facts, or-zero, one-end}
 use Rattle.promises.proofs.Own.{SameTo, key-there-same, kind-same, new-key-same, value-same, checks-same}
 
 -- an accepted image, and four session keys of 32 bytes
