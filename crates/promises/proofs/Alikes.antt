@@ -23,7 +23,8 @@ use Rattle.rules.specs.Whole.{outcome, kindIn, newKey, failedWith, keysAfter, c
 use Rattle.rules.proofs.Taken.{below-count, one-end}
 use Rattle.promises.specs.Compared.{counterIn, Alike}
 use Rattle.promises.proofs.Own.{SameTo}
-use Rattle.promises.proofs.WholeOwn.{Formed, Kept, whole-kept, SameBy, whole-same}
+use Rattle.promises.specs.Formed.{Formed}
+use Rattle.promises.proofs.WholeOwn.{Kept, whole-kept, SameBy, whole-same}
 
 module _ (d : Device) (frame : List ℕ) (formed : Formed (d .image) (d .state .keys)) where
   abbrev c : ℕ

@@ -33,7 +33,8 @@ use Rattle.rules.specs.Whole.{Outcome, outcome, kindIn, whole}
 use Rattle.rules.proofs.RunsWhole.{runs-whole}
 use Rattle.promises.specs.Compared.{Alike}
 use Rattle.promises.specs.Account.{Account, isBusy, idle, goneBy, worked, interrupted, cut}
-use Rattle.promises.proofs.WholeOwn.{Formed, whole-kept}
+use Rattle.promises.specs.Formed.{Formed}
+use Rattle.promises.proofs.WholeOwn.{whole-kept}
 use Rattle.promises.proofs.Alikes.{whole-formed, alike-whole}
 use Rattle.promises.proofs.Sound.{Resting, started, Working, Sound}
 use Rattle.promises.proofs.Interrupted.{Left, header-as-if, left-behind}

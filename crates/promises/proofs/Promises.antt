@@ -20,13 +20,14 @@ use Rattle.promises.specs.Orders.{Call, PowerUp, Frame, Work, called, nu
 use Rattle.promises.specs.Account.{isBusy, account, begun}
 use Rattle.promises.specs.Reordering.{ownFrames, allWhole, ownStatuses, eachRun, Commands}
 use Rattle.promises.specs.Examples.{Example, Ready, Given, script, Seen}
-use Rattle.promises.proofs.WholeOwn.{Formed}
+use Rattle.promises.specs.Formed.{Formed}
 use Rattle.promises.proofs.FirstHalf.{all-sound, start-sound, first-half, none-refused}
 use Rattle.promises.proofs.SecondHalf.{same-counter, same-session, same-statuses}
 use Rattle.promises.proofs.Reordered.{reordered-counter, reordered-session}
 use Rattle.promises.proofs.ItEnds.{idle-after-longest, steps-counted, fewer-than-longest}
 use Rattle.promises.proofs.Refused.{power-up-keeps, frame-refused, work-refused}
-use Rattle.promises.proofs.Functions.{Ran, functions-first-half}
+use Rattle.promises.specs.Functions.{Ran}
+use Rattle.promises.proofs.Functions.{functions-first-half}
 use Rattle.promises.proofs.Examples.{examples}
 
 -- "Whatever the order of frames, steps, resets and power cuts, once idle the device is as if the frames that found it idle had run

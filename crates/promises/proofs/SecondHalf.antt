@@ -20,7 +20,8 @@ use Rattle.promises.specs.Compared.{counterIn}
 use Rattle.promises.specs.Account.{idle}
 use Rattle.promises.specs.Reordering.{belongs, ownFrames, allWhole, ownStatuses}
 use Rattle.promises.proofs.Own.{SameTo}
-use Rattle.promises.proofs.WholeOwn.{Formed, Kept, whole-kept, whole-same}
+use Rattle.promises.specs.Formed.{Formed}
+use Rattle.promises.proofs.WholeOwn.{Kept, whole-kept, whole-same}
 use Rattle.promises.proofs.Alikes.{whole-formed}
 
 -- two outcomes that are the same to a counter: what is compared of it, and its session key

@@ -16,7 +16,7 @@ use Rattle.progress.proofs.Enabled.{enabledAs}
 use Rattle.rules.specs.Whole.{outcome, kindIn}
 use Rattle.promises.specs.Compared.{Alike}
 use Rattle.promises.specs.Account.{Account}
-use Rattle.promises.proofs.WholeOwn.{Formed}
+use Rattle.promises.specs.Formed.{Formed}
 
 -- no job: the device is as if
 pub record Resting (a : Account) : Type 0 where

@@ -26,15 +26,10 @@ use Rattle.arrival.specs.Arrival.{frameKept, statusOnArrival}
 use Rattle.device.specs.Work.{Device}
 use Rattle.rules.specs.Whole.{Outcome, kindIn, valueIn, allChecks, failedWith, keysAfter, replyAfter, imageAfter, carriedOut, whole}
 use Rattle.rules.proofs.Taken.{Facts, below-count, facts, or-zero, one-end}
+use Rattle.promises.specs.Formed.{Formed}
 use Rattle.promises.specs.Compared.{counterIn}
 use Rattle.promises.proofs.Counters.{readCounter, counter-read, counterAfter, after-stores}
 use Rattle.promises.proofs.Own.{SameTo, key-there-same, kind-same, new-key-same, value-same, checks-same}
-
--- an accepted image, and four session keys of 32 bytes
-pub record Formed (image : List ℕ) (keys : List Key) : Type 0 where
-  pub laid : Laid image
-  pub four : length keys ≡ 4
-  pub long : (k : ℕ) → length (getD keys k noKey .bytes) ≡ 32
 
 -- the stores of a kind of job
 module _ (kind : Kind) (frame : List ℕ) (kept : ℕ) (image : List ℕ) (c : ℕ) (laid : Laid image) (below : c < count image) where
