@@ -29,14 +29,14 @@ use Rattle.steps.specs.Deciding.{withKept, decisionOf, decided}
 use Rattle.arrival.specs.Arrival.{frameKept, jobOf, taken}
 use Rattle.arrival.proofs.Arrives.{arrived-starts}
 use Rattle.device.specs.Work.{Device, run}
-use Rattle.device.specs.Calls.{device}
+use Rattle.device.specs.Calls.{device, Frame, Work, called}
 use Rattle.progress.proofs.Runs.{run-add}
 use Rattle.progress.proofs.Hashing.{busy, begun, hashedAt, afterFour, four-steps}
 use Rattle.progress.proofs.Stores.{stores-left, all-made}
 use Rattle.rules.specs.Whole.{kindIn, valueIn, keyThere}
 use Rattle.rules.proofs.RunsWhole.{short}
-use Rattle.promises.specs.Orders.{Frame, Work, called, allCalled}
-use Rattle.promises.specs.Examples.{P9-after-14, P9-after-15, P11, P12, Ready, slotFor, InOrder, Good, Pairs, Ends, Seen}
+use Rattle.promises.specs.Orders.{allCalled}
+use Rattle.promises.specs.Examples.{P9-before-the-end, P9-at-the-end, P11, P12, Ready, slotFor, InOrder, Good, Pairs, Ends, Seen}
 use Rattle.promises.proofs.Sound.{started}
 use Rattle.promises.proofs.ExamplesCalls.{Holds, work-called}
 use Rattle.promises.proofs.ExamplesArrival.{shaped-long, past-counter}
@@ -52,7 +52,7 @@ unfolding withStep
 some-stored image keys counter frame root chain made inner kept j left =
     stores-left (busy RootKeyAndCounter keys counter frame root 3 chain made inner kept) 3 refl refl image j left
 
-module _ (d : Device) (ready : Ready d) (frame : List ℕ) where
+module _ (d : Device) (ready : Ready d) (frame output : List ℕ) where
   abbrev c : ℕ
   c = counterOf frame
 
@@ -76,13 +76,13 @@ module _ (d : Device) (ready : Ready d) (frame : List ℕ) where
   works :
       (type : ℕ) → type ≤ 3 → InOrder type frame → slotStatus type (slotFor d frame) (sessionKey (d .state) c .there) ≡ 0 →
       (kind : Kind) → kindIn d frame ≡ kind → (after : State) → checked kind ≡ after → (m : ℕ) →
-      called (Work (m + 4)) (called (Frame frame) d) ≡ run m (device (d .image) after)
+      called (Work (m + 4)) (called (Frame frame output) d) ≡ run m (device (d .image) after)
   unfolding taken jobOf
   works type known in-order good kind is after decides m =
       let shaped = in-order .shaped in
-      let passed = eq-eqb _ 0 (past-counter d ready frame type known in-order ∙ good) in
+      let passed = eq-eqb _ 0 (past-counter d ready frame output type known in-order ∙ good) in
       let starts = arrived-starts (d .image) (d .state) frame passed ∙ ap start is in
-      work-called d ready frame (shaped .first) (shaped-long type frame shaped) (m + 4) ∙ run-add m 4 (started d frame)
+      work-called d ready output frame (shaped .first) (shaped-long type frame shaped) (m + 4) ∙ run-add m 4 (started d frame)
       ∙ ap (run m)
       (ap (λ (s : State). run 4 (device (d .image) s)) starts ∙ four-steps _ _ _ _ _ _ _ _ _ kind ∙ ap (device (d .image)) decides)
 
@@ -108,21 +108,21 @@ module _ (d : Device) (ready : Ready d) (frame : List ℕ) where
   -- a frame that pairs passes, and goes on to its stores
   pub pairing :
       Pairs d frame → (m : ℕ) →
-      called (Work (m + 4)) (called (Frame frame) d) ≡ run m (device (d .image) (advanced (hashed RootKeyAndCounter)))
+      called (Work (m + 4)) (called (Frame frame output) d) ≡ run m (device (d .image) (advanced (hashed RootKeyAndCounter)))
   unfolding kindOf rootKind slotStatus stateStatus isBad decided withKept pick
   pairing p =
       works 0 (omega arith) (p .in-order) (rw (p .root, p .counter)) RootKeyAndCounter
       (rw (p .in-order .shaped .typed, p .lasting, p .counter)) _ (rw (root-good (p .good)))
 
-  pub busy-after-14 : Holds P9-after-14 d frame
+  pub busy-before-the-end : Holds P9-before-the-end d frame output
   unfolding allCalled keyStores
-  busy-after-14 p = subst (Seen P9-after-14 d frame) (sym (pairing p 10 ∙ some-stored _ _ _ _ _ _ _ _ _ 10 (omega arith))) (refl, refl)
+  busy-before-the-end p = subst (Seen P9-before-the-end d frame) (sym (pairing p 10 ∙ some-stored _ _ _ _ _ _ _ _ _ 10 (omega arith))) (refl, refl)
 
-  pub done-after-15 : Holds P9-after-15 d frame
+  pub done-at-the-end : Holds P9-at-the-end d frame output
   unfolding allCalled keyStores withStep
-  done-after-15 p = subst (Ends 0x80) (sym (pairing p 11 ∙ all-made (hashed RootKeyAndCounter) 3 refl refl (d .image) 11 (omega arith))) (refl, refl)
+  done-at-the-end p = subst (Ends 0x80) (sym (pairing p 11 ∙ all-made (hashed RootKeyAndCounter) 3 refl refl (d .image) 11 (omega arith))) (refl, refl)
 
-  pub temporary-key : Holds P11 d frame
+  pub temporary-key : Holds P11 d frame output
   unfolding allCalled kindOf rootKind slotStatus stateStatus isBad run decided withKept advanced pick
   temporary-key (in-order, root, counter, value, temporary, good) =
       let after =
@@ -130,7 +130,7 @@ module _ (d : Device) (ready : Ready d) (frame : List ℕ) where
       (posted (hashed Nothing) 0x80) (rw (root-good good)) 0 in
       subst (Seen P11 d frame) (sym after) ((refl, refl), value)
 
-  pub full-counter : Holds P12 d frame
+  pub full-counter : Holds P12 d frame output
   unfolding allCalled kindOf slotStatus stateStatus run decided pick
   full-counter (in-order, sane, set, key, good, told, full) =
       let after =

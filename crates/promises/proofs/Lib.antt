@@ -8,7 +8,6 @@ pub mod Sound
 pub mod Interrupted
 pub mod Calls
 pub mod FirstHalf
-pub mod Refused
 pub mod ItEnds
 pub mod SecondHalf
 pub mod Reordered

@@ -4,11 +4,10 @@ use mathlib.Core.Path.{_≡_}
 use mathlib.Core.List.{List, [], _∷_}
 use denote.Ref.{now}
 use Rattle.device.specs.Work.{Device}
-use Rattle.device.specs.Calls.{device}
+use Rattle.device.specs.Calls.{device, After, leaving, Call, PowerUp, Frame, Work}
 use Rattle.device.proofs.power_up.Reads as power-up-reads
 use Rattle.device.proofs.frame.Reads as frame-reads
 use Rattle.device.proofs.work.Reads as work-reads
-use Rattle.promises.specs.Orders.{Call, PowerUp, Frame, Work}
 
 -- a call of a function: lifetimes, arguments, result and what is lent at exit, as its contract has them
 module _
@@ -23,21 +22,22 @@ module _
     pub given : Given lifetimes args
     pub left : Left lifetimes args result exit
 
--- a function was called: it was handed a device, and left another
-abbrev pub Did : Call → Device → Device → Type 0
-Did PowerUp d e = Called power-up-reads.Post (λ κs a. now (a .0) ≡ d .image) (λ κs a x s. device (now (a .0)) (x .state) ≡ e)
-Did (Frame bytes) d e =
-    Called frame-reads.Post (λ κs a. (device (now (a .0)) (a .1 .0) ≡ d) × (now (a .1 .1 .0) ≡ bytes))
-    (λ κs a x s. device (now (a .0)) (x .state) ≡ e)
-Did (Work quota) d e =
+-- a function was called: what it was handed, and what it left
+abbrev pub Did : Call → Device → After → Type 0
+Did PowerUp d r = Called power-up-reads.Post (λ κs a. now (a .0) ≡ d .image) (λ κs a x s. leaving x [] (now (a .0)) ≡ r)
+Did (Frame bytes output) d r =
+    Called frame-reads.Post
+    (λ κs a. (device (now (a .0)) (a .1 .0) ≡ d) × (now (a .1 .1 .0) ≡ bytes) × (now (a .1 .1 .1 .0) ≡ output))
+    (λ κs a x s. leaving x (now (s .1 .1 .1 .0)) (now (a .0)) ≡ r)
+Did (Work quota) d r =
     Called work-reads.Post (λ κs a. (device (now (a .0)) (a .1 .0) ≡ d) × (a .1 .1 .0 ≡ quota))
-    (λ κs a x s. device (now (s .0)) (x .state) ≡ e)
+    (λ κs a x s. leaving x [] (now (s .0)) ≡ r)
 
 -- a call, and what follows with the device that it left
 pub record Then (call : Call) (d : Device) (More : Device → Type 0) : Type 0 where
-  pub between : Device
+  pub between : After
   pub did : Did call d between
-  pub more : More between
+  pub more : More (between .device)
 
 -- a run made of calls, from a device to another
 unfoldable pub Ran : List Call → Device → Device → Type 0
