@@ -2,6 +2,7 @@
 pub mod Counters
 pub mod Own
 pub mod WholeOwn
+pub mod Unseen
 pub mod Cuts
 pub mod Alikes
 pub mod Sound
