@@ -9,7 +9,9 @@ use lib.Dec.{ltb}
 use Rattle.words.specs.Choice.{pick}
 use Rattle.words.proofs.Choice.{never}
 use Rattle.state.specs.Refusal.{isRunning}
-use Rattle.state.proofs.Running.{at-most-15, step-left}
+use Rattle.jobs.specs.Jobs.{longest}
+use Rattle.jobs.proofs.Longest.{at-most}
+use Rattle.state.proofs.Running.{step-left}
 use Rattle.device.specs.Work.{Device, stepped, run, within, stepsLeft}
 use Rattle.device.proofs.Ends.{rest, bound, step-less, bound-runs}
 
@@ -45,12 +47,11 @@ enough (suc n) d h = enough-by n d _ refl (enough n (stepped d)) h
 pub left-one : (d : Device) → isRunning (d .state) ≡ true → stepsLeft d ≡ suc (stepsLeft (stepped d))
 unfolding stepsLeft
 left-one d e =
-    within-runs 14 d e
-    ∙ ap suc (enough 14 (stepped d) (omega (arith, stepped-less d e, at-most-15 (d .state .job .kind))))
+    enough longest d (omega (arith, bound-runs (d .state) e, at-most (d .state .job .kind))) ∙ within-runs longest d e
 
 pub left-none : (d : Device) → isRunning (d .state) ≡ false → stepsLeft d ≡ 0
 unfolding stepsLeft
-left-none d e = within-none 15 d e
+left-none d e = within-none longest d e
 
 -- one step more
 pub run-more : (n : ℕ) (d : Device) → run (n + 1) d ≡ stepped (run n d)

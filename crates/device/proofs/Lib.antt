@@ -1,4 +1,5 @@
--- That a job ends, the laws of the steps left, and that each public function has one answer only.
+-- That a job ends, the laws of the steps left, what a call leaves, and that each public function has one answer only.
 pub mod Ends
 pub mod Left
+pub mod AfterCalls
 pub mod OneAnswer

@@ -1,6 +1,6 @@
--- Document 01, "Refusal numbers": the three calls, refused ones too. Assumes nothing.
+-- Document 01, "Refusal numbers": the three calls, refused ones too, and what each leaves. Assumes nothing.
 use Prim.Native.Nat.{ℕ}
-use mathlib.Core.List.{List}
+use mathlib.Core.List.{List, []}
 use lib.Dec.{eqb}
 use Rattle.words.specs.Choice.{pick}
 use Rattle.image.specs.Refusal.{refusal}
@@ -44,3 +44,31 @@ imageAfterWork d quota = pick (eqb (deviceRefusal (d .image) (d .state)) 0) (run
 -- an image and a state handed in together
 abbrev pub device : List ℕ → State → Device
 device image s = record { image = image; state = s }
+
+-- a call: power-up, and a power cut is one on the image as it then stands; a frame's bytes, with an output buffer; work, with a quota
+pub data Call : Type 0 where
+  PowerUp : Call
+  Frame : List ℕ → List ℕ → Call
+  Work : ℕ → Call
+
+-- what a call leaves: its number, 0 or the refusal's, the steps that it reports, the output buffer, none but for a frame, and the
+-- image and the state
+pub record After : Type 0 where
+  pub number : ℕ
+  pub steps : ℕ
+  pub output : List ℕ
+  pub device : Device
+
+-- an answer, with the output and the image as they then stand
+abbrev pub leaving : Answer → List ℕ → List ℕ → After
+leaving a output image = record { number = a .number; steps = a .steps; output = output; device = device image (a .state) }
+
+abbrev pub after : Call → Device → After
+after PowerUp d = leaving (poweredUp (d .image)) [] (d .image)
+after (Frame bytes output) d =
+    leaving (afterFrame (d .image) (d .state) bytes) (outputAfterFrame (d .image) (d .state) bytes output) (d .image)
+after (Work quota) d = leaving (afterWork d quota) [] (imageAfterWork d quota)
+
+-- the device after a call
+abbrev pub called : Call → Device → Device
+called call d = after call d .device

@@ -2,6 +2,7 @@
 use Prim.Native.Nat.{ℕ, zero, suc, min}
 use mathlib.Core.List.{List}
 use Rattle.words.specs.Choice.{pick}
+use Rattle.jobs.specs.Jobs.{longest}
 use Rattle.state.specs.declared.State.{State}
 use Rattle.state.specs.Refusal.{isRunning}
 use Rattle.steps.specs.Step.{stepState, stepImage}
@@ -25,9 +26,9 @@ unfoldable pub within : ℕ → Device → ℕ
 within zero d = 0
 within (suc n) d = pick (isRunning (d .state)) (suc (within n (stepped d))) 0
 
--- the steps left: busy clears after at most 15 steps
+-- the steps left: busy clears after at most as many steps as the longest job has
 unfoldable pub stepsLeft : Device → ℕ
-stepsLeft d = within 15 d
+stepsLeft d = within longest d
 
 -- the smaller of the quota and the steps left
 abbrev pub stepsDone : ℕ → Device → ℕ

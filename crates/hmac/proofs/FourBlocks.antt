@@ -1,6 +1,6 @@
 -- HMAC is a theorem about the four quarters: the inner hash is the first two, the outer hash the last two. What a quarter does
 -- not look at may be anything. Assumes nothing.
-use mathlib.Core.Path.{_≡_}
+use mathlib.Core.Path.{_≡_, sym}
 use mathlib.Core.List.{List, _++_}
 use Prim.Native.Nat.{ℕ, _≤_}
 use native.Mathlib.Omega.{arith}
@@ -33,3 +33,18 @@ pub four-blocks :
     bytesOfAll (chainAfter InnerDigest key message (chainAfter KeyOpad key message a b) (chainAfter Message key message (chainAfter KeyIpad key message c d) e))
 unfolding HMAC chainAfter
 four-blocks key message a b c d e k m = rw (two-blocks ipad key message k m) (two-blocks opad key _ k (digest-fits _ _))
+
+-- the chaining words of an HMAC's second and fourth block
+unfoldable pub second : List ℕ → List ℕ → List ℕ → List ℕ → List ℕ
+second key message chain inner = chainAfter Message key message (chainAfter KeyIpad key message chain inner) inner
+
+unfoldable pub fourth : List ℕ → List ℕ → List ℕ → List ℕ → List ℕ
+fourth key message chain inner =
+    chainAfter InnerDigest key message (chainAfter KeyOpad key message (second key message chain inner) (second key message chain inner))
+    (second key message chain inner)
+
+-- after the fourth block they are the HMAC
+pub fourth-hmac :
+    (key message chain inner : List ℕ) → length key ≡ 32 → length message ≤ 55 → bytesOfAll (fourth key message chain inner) ≡ HMAC key message
+unfolding second fourth
+fourth-hmac key message chain inner k m = sym (four-blocks key message _ _ _ _ _ k m)

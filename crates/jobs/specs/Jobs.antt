@@ -1,6 +1,7 @@
 -- Document 01, "Steps": the seven kinds of job, their lengths, and the commands that they belong to. Assumes nothing.
-use Prim.Native.Nat.{ℕ}
+use Prim.Native.Nat.{ℕ, max}
 use mathlib.Core.Bool.{Bool}
+use mathlib.Core.List.{List, [], _∷_}
 use lib.Dec.{eqb}
 use Rattle.words.specs.Choice.{pick}
 use Rattle.image.specs.Slot.{isSet}
@@ -18,6 +19,19 @@ lengthOf Nothing = 4
 lengthOf SessionKey = 8
 lengthOf Increment = 5
 lengthOf Request = 8
+
+-- all kinds of job
+abbrev pub kinds : List Kind
+kinds = RootKeyAndCounter ∷ RootKey ∷ CounterOnly ∷ Nothing ∷ SessionKey ∷ Increment ∷ Request ∷ []
+
+-- the largest of the lengths of some kinds
+unfoldable pub longestOf : List Kind → ℕ
+longestOf [] = 0
+longestOf (kind ∷ more) = max (lengthOf kind) (longestOf more)
+
+-- the length of the longest job
+unfoldable pub longest : ℕ
+longest = longestOf kinds
 
 -- the command that a kind of job carries out: types 00, 01, 02, 03
 abbrev pub commandOf : Kind → Command

@@ -11,19 +11,20 @@ use lib.Seq.{ext-getD, getD-set-same}
 use Rattle.hmac.proofs.Lengths.{length-HMAC}
 use Rattle.image.specs.Header.{count}
 use Rattle.image.proofs.Laid.{SameHeader, same-laid}
-use Rattle.checks.specs.Layout.{counterOf}
 use Rattle.jobs.specs.Jobs.{commandOf}
 use Rattle.jobs.specs.declared.Kind.{Kind}
 use Rattle.jobs.specs.declared.Kind.the-variants.{RootKeyAndCounter, RootKey, CounterOnly, Nothing, SessionKey, Increment, Request}
+use Rattle.checks.specs.Layout.{counterOf}
 use Rattle.state.specs.declared.Key.{Key}
 use Rattle.state.specs.Parts.{noKey}
 use Rattle.arrival.specs.Arrival.{statusOnArrival}
 use Rattle.device.specs.Work.{Device}
 use Rattle.rules.specs.Whole.{outcome, kindIn, newKey, failedWith, keysAfter, carriedOut, whole}
+use Rattle.rules.proofs.Taken.{below-count, one-end}
 use Rattle.promises.specs.Compared.{counterIn, Alike}
-use Rattle.promises.proofs.Taken.{below-count, one-end}
 use Rattle.promises.proofs.Own.{SameTo}
-use Rattle.promises.proofs.WholeOwn.{Formed, Kept, whole-kept, SameBy, whole-same}
+use Rattle.promises.specs.Formed.{Formed}
+use Rattle.promises.proofs.WholeOwn.{Kept, whole-kept, SameBy, whole-same}
 
 module _ (d : Device) (frame : List ℕ) (formed : Formed (d .image) (d .state .keys)) where
   abbrev c : ℕ

@@ -1,48 +1,45 @@
 -- One call more: what holds along an order of calls holds after it. Assumes nothing.
-use Prim.Native.Nat.{ℕ, zero, suc, _+_, _<_}
+use Prim.Native.Nat.{ℕ, _+_}
 use mathlib.Core.Path.{_≡_, refl, ap, sym, subst, _∙_}
 use mathlib.Core.Logic.{inl, inr, ⊎-elim}
 use mathlib.Core.Bool.{Bool, true, false}
 use mathlib.Core.List.{List}
 use native.Mathlib.Nat.{zero-sub}
-use native.Mathlib.Omega.{arith}
 use borrow.Author.Tests.{eqb-true}
 use lib.Dec.{eqb}
-use lib.ListN.{length, getD, replicate}
+use lib.ListN.{length, getD}
 use Rattle.words.specs.Choice.{pick}
 use Rattle.image.specs.Refusal.{refusal}
 use Rattle.image.proofs.Laid.{SameHeader, then-header, back-header, same-laid, accepted-laid, same-refusal}
+use Rattle.jobs.specs.Jobs.{commandOf, hashSteps, longest}
+use Rattle.jobs.proofs.Longest.{some-steps}
 use Rattle.checks.specs.Layout.{counterOf}
-use Rattle.jobs.specs.Jobs.{lengthOf, commandOf, hashSteps}
-use Rattle.jobs.specs.declared.Kind.{Kind}
-use Rattle.jobs.specs.declared.Kind.the-variants.{RootKeyAndCounter, RootKey, CounterOnly, Nothing, SessionKey, Increment, Request}
 use Rattle.state.specs.declared.Key.{Key}
 use Rattle.state.specs.declared.State.{State}
 use Rattle.state.specs.Parts.{noKey, powerOn}
+use Rattle.state.proofs.Inside.{no-key}
+use Rattle.state.proofs.Running.{no-job-idle}
 use Rattle.plan.specs.Storing.{allStored}
 use Rattle.arrival.specs.Arrival.{frameKept, statusOnArrival, jobOf, taken}
+use Rattle.arrival.proofs.Arrives.{arrived-starts, arrived-fails}
 use Rattle.device.specs.Frame.{withEnabled}
 use Rattle.device.specs.Work.{Device, run}
 use Rattle.device.specs.Calls.{device}
+use Rattle.progress.proofs.Runs.{run-idle, run-add}
+use Rattle.progress.proofs.Jobs.{At, progress}
+use Rattle.progress.proofs.Enabled.{enabledAs, run-same}
+use Rattle.progress.proofs.Ends.{same-end}
 use Rattle.rules.specs.Whole.{Outcome, outcome, kindIn, whole}
-use Rattle.rules.proofs.Runs.{run-idle, run-add}
-use Rattle.rules.proofs.RunsWhole.{arrived-starts, arrived-fails, runs-whole}
+use Rattle.rules.proofs.RunsWhole.{runs-whole}
 use Rattle.promises.specs.Compared.{Alike}
 use Rattle.promises.specs.Account.{Account, isBusy, idle, goneBy, worked, interrupted, cut}
-use Rattle.promises.proofs.WholeOwn.{Formed, whole-kept}
-use Rattle.promises.proofs.Progress.{At, no-job-idle, progress}
-use Rattle.promises.proofs.Enabled.{enabledAs, run-same}
+use Rattle.promises.specs.Formed.{Formed}
+use Rattle.promises.proofs.WholeOwn.{whole-kept}
 use Rattle.promises.proofs.Alikes.{whole-formed, alike-whole}
-use Rattle.promises.proofs.Ends.{same-end}
 use Rattle.promises.proofs.Sound.{Resting, started, Working, Sound}
 use Rattle.promises.proofs.Interrupted.{Left, header-as-if, left-behind}
 
 -- the power-on state is formed
-no-key : (n k : ℕ) → getD (replicate n noKey) k noKey ≡ noKey
-no-key zero k = refl
-no-key (suc n) zero = refl
-no-key (suc n) (suc k) = no-key n k
-
 pub formed-on : (image : List ℕ) → refusal image ≡ 0 → Formed image (powerOn .keys)
 formed-on image accepted =
     record { laid = accepted-laid image accepted; four = refl; long = λ k. ap (λ (key : Key). length (key .bytes)) (no-key 4 k) }
@@ -163,16 +160,6 @@ worked-out after frame a e = ap (λ (o : Outcome). record { device = after; asIf
     picked : isBusy after ≡ false → pick (isBusy after) (a .asIf) (whole (idle (a .asIf)) frame) ≡ whole (idle (a .asIf)) frame
     picked e = rw e
 
--- no kind of job is without steps
-some-steps : (kind : Kind) → 0 < lengthOf kind
-some-steps RootKeyAndCounter = omega arith
-some-steps RootKey = omega arith
-some-steps CounterOnly = omega arith
-some-steps Nothing = omega arith
-some-steps SessionKey = omega arith
-some-steps Increment = omega arith
-some-steps Request = omega arith
-
 -- a command frame that finds the device idle
 module _ (a : Account) (accepted : refusal (a .asIf .image) ≡ 0) (r : Resting a) (frame : List ℕ) where
   abbrev d : Device
@@ -219,7 +206,7 @@ module _ (a : Account) (accepted : refusal (a .asIf .image) ≡ 0) (r : Resting 
       let arrives = arrived-fails (d .image) (d .state) frame e in
       let none : isBusy (started d frame) ≡ false = ap (λ (s : State). s .job .there) arrives ∙ r .none in
       let result : outcome (started d frame) ≡ whole d frame =
-      ap outcome (sym (run-idle 15 (started d frame) (no-job-idle (started d frame .state) none)))
+      ap outcome (sym (run-idle longest (started d frame) (no-job-idle (started d frame .state) none)))
       ∙ runs-whole d frame (r .none) (r .formed .long (counterOf frame)) in
       subst Sound (sym (worked-out (started d frame) frame a none))
       (record { accepted = accepted-whole (a .asIf) frame accepted; state = inl (ended d frame (a .asIf) (r .formed) (r .header) (r .alike) (started d frame) result none) })

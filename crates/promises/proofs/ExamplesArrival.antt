@@ -15,13 +15,13 @@ use Rattle.checks.specs.Layout.{counterOf, frameLength}
 use Rattle.checks.specs.Checks.{shapeStatus, counterStatus, stateStatus, slotStatus, arrivalStatus}
 use Rattle.state.specs.Parts.{sessionKey}
 use Rattle.arrival.specs.Arrival.{statusOnArrival, taken}
+use Rattle.arrival.proofs.Arrives.{arrived-fails}
 use Rattle.device.specs.Frame.{withEnabled}
 use Rattle.device.specs.Work.{Device}
-use Rattle.device.specs.Calls.{device}
-use Rattle.rules.proofs.RunsWhole.{arrived-fails}
-use Rattle.promises.specs.Orders.{Frame, called, allCalled}
+use Rattle.device.specs.Calls.{device, Frame, called}
+use Rattle.progress.proofs.Enabled.{enabledAs}
+use Rattle.promises.specs.Orders.{allCalled}
 use Rattle.promises.specs.Examples.{P1, P2, P3, P4, P5, P6, P7, P8, P13, P14, Ready, slotFor, Shaped, InOrder, Ends, Seen}
-use Rattle.promises.proofs.Enabled.{enabledAs}
 use Rattle.promises.proofs.ExamplesCalls.{Holds, frame-called, ready-enabled, command-called}
 
 -- a frame with its length in order has two bytes or more
@@ -32,7 +32,7 @@ shaped-long type frame shaped =
     (either (λ (n : ℕ). 1 < n) (eqb type 0) 64 _ (λ _. omega arith)
     (λ _. either (λ (n : ℕ). 1 < n) (eqb type 3) 48 40 (λ _. omega arith) (λ _. omega arith)))
 
-module _ (d : Device) (ready : Ready d) (frame : List ℕ) where
+module _ (d : Device) (ready : Ready d) (frame output : List ℕ) where
   abbrev c : ℕ
   c = counterOf frame
 
@@ -62,66 +62,66 @@ module _ (d : Device) (ready : Ready d) (frame : List ℕ) where
   -- a frame that fails on arrival ends with its status
   fails :
       getD frame 0 0 ≡ 0x9B → 1 < length frame → (status : ℕ) → statusOnArrival (d .image) (d .state) frame ≡ status → eqb status 0 ≡ false →
-      Ends status (called (Frame frame) d)
+      Ends status (called (Frame frame output) d)
   unfolding taken
   fails first long status decided bad =
       let failed = arrived-fails (d .image) (d .state) frame (rw decided bad) in
-      let after = command-called d ready frame first long ∙ ap (device (d .image)) failed in
+      let after = command-called d ready output frame first long ∙ ap (device (d .image)) failed in
       subst (Ends status) (sym after) (ready .none, decided)
 
   shaped-fails :
       (type : ℕ) → Shaped type frame → (status : ℕ) → statusOnArrival (d .image) (d .state) frame ≡ status → eqb status 0 ≡ false →
-      Ends status (called (Frame frame) d)
+      Ends status (called (Frame frame output) d)
   shaped-fails type shaped = fails (shaped .first) (shaped-long type frame shaped)
 
-  pub alone : Holds P1 d frame
+  pub alone : Holds P1 d frame output
   unfolding allCalled classOf namedClass withEnabled pick
-  alone e = rw e (ap (λ (after : Device). after .state .status) (frame-called d ready (0x9B ∷ [])))
+  alone e = rw e (ap (λ (after : Device). after .state .status) (frame-called d ready output (0x9B ∷ [])))
 
-  pub short : Holds P2 d frame
+  pub short : Holds P2 d frame output
   unfolding allCalled statusOnArrival arrivalStatus shapeStatus frameLength pick
   short e = fails (rw e) (rw e (omega arith)) 0x04 (rw e) refl
 
-  pub unknown-type : Holds P3 d frame
+  pub unknown-type : Holds P3 d frame output
   unfolding allCalled statusOnArrival arrivalStatus shapeStatus pick
   unknown-type e = fails (rw e) (rw e (omega arith)) 0x04 (rw e) refl
 
-  pub root-key-beyond : Holds P4 d frame
+  pub root-key-beyond : Holds P4 d frame output
   unfolding allCalled counterStatus pick
   root-key-beyond (shaped, beyond) = shaped-fails 0 shaped 0x06 (past-shape 0 (omega arith) shaped ∙ rw beyond) refl
 
-  pub session-key-beyond : Holds P5 d frame
+  pub session-key-beyond : Holds P5 d frame output
   unfolding allCalled counterStatus pick
   session-key-beyond (shaped, beyond) = shaped-fails 1 shaped 0x04 (past-shape 1 (omega arith) shaped ∙ rw beyond) refl
 
   -- a frame in order that fails by its slot or its session key
   slot-fails :
       (type : ℕ) → type ≤ 3 → InOrder type frame → (status : ℕ) → slotStatus type (slotFor d frame) hasKey ≡ status → eqb status 0 ≡ false →
-      Ends status (called (Frame frame) d)
+      Ends status (called (Frame frame output) d)
   slot-fails type known in-order status decided = shaped-fails type (in-order .shaped) status (past-counter type known in-order ∙ decided)
 
-  pub session-key-unset : Holds P6 d frame
+  pub session-key-unset : Holds P6 d frame output
   unfolding allCalled slotStatus stateStatus pick
   session-key-unset (in-order, sane, unset) = slot-fails 1 (omega arith) in-order 0x02 (rw (sane, unset)) refl
 
-  pub request-without-key : Holds P7 d frame
+  pub request-without-key : Holds P7 d frame output
   unfolding allCalled slotStatus stateStatus pick
   request-without-key (in-order, sane, set, none) = slot-fails 3 (omega arith) in-order 0x08 (rw (sane, set, none)) refl
 
-  pub root-key-set : Holds P8 d frame
+  pub root-key-set : Holds P8 d frame output
   unfolding allCalled slotStatus stateStatus pick
   root-key-set (in-order, sane, set) = slot-fails 0 (omega arith) in-order 0x02 (rw (sane, set)) refl
 
-  pub bad-slot : Holds P13 d frame
+  pub bad-slot : Holds P13 d frame output
   unfolding allCalled slotStatus isBad pick
   bad-slot (in-order, root) = slot-fails 3 (omega arith) in-order 0x20 (rw root) refl
 
   -- reset-enable goes on, the read clears it, and the reset finds it off
-  pub no-reset : Holds P14 d frame
+  pub no-reset : Holds P14 d frame output
   unfolding allCalled classOf namedClass withEnabled pick
   no-reset e =
-      let on = frame-called d ready (0x66 ∷ []) in
-      let off = frame-called (enabledAs true d) (ready-enabled d ready true) (0x96 ∷ 0x00 ∷ []) in
-      let still = frame-called (enabledAs false d) (ready-enabled d ready false) (0x99 ∷ []) in
-      let after = ap (allCalled (Frame (0x96 ∷ 0x00 ∷ []) ∷ Frame (0x99 ∷ []) ∷ [])) on ∙ ap (called (Frame (0x99 ∷ []))) off ∙ still in
+      let on = frame-called d ready output (0x66 ∷ []) in
+      let off = frame-called (enabledAs true d) (ready-enabled d ready output true) output (0x96 ∷ 0x00 ∷ []) in
+      let still = frame-called (enabledAs false d) (ready-enabled d ready output false) output (0x99 ∷ []) in
+      let after = ap (allCalled (Frame (0x96 ∷ 0x00 ∷ []) output ∷ Frame (0x99 ∷ []) output ∷ [])) on ∙ ap (called (Frame (0x99 ∷ []) output)) off ∙ still in
       subst (Seen P14 d frame) (sym after) (refl, refl, refl)

@@ -1,52 +1,34 @@
 -- What a row of the examples claims, and the calls on a ready device: a command frame is taken, and a work call does its quota of
 -- steps. Assumes nothing.
-use Prim.Native.Nat.{ℕ, _+_, _-_, _<_}
-use mathlib.Core.Path.{_≡_, refl, ap, sym, _∙_}
-use mathlib.Core.Bool.{Bool, true, false}
+use Prim.Native.Nat.{ℕ, _<_}
+use mathlib.Core.Path.{_≡_, ap, sym, _∙_}
+use mathlib.Core.Bool.{Bool}
 use mathlib.Core.List.{List, []}
 use native.Mathlib.Omega.{arith}
-use borrow.Author.Tests.{ltb-true, ltb-false, lt-ltb, ne-eqb}
-use lib.Dec.{ltb}
+use borrow.Author.Tests.{lt-ltb, ne-eqb}
 use lib.ListN.{length, getD}
 use Rattle.words.specs.Choice.{pick}
 use Rattle.image.proofs.Laid.{accepted-laid}
-use Rattle.state.specs.Refusal.{isRunning}
 use Rattle.frames.specs.declared.Class.the-variants.{Command}
 use Rattle.frames.specs.Classes.{namedClass, classOf}
 use Rattle.device.specs.Frame.{withEnabled, stateAfter}
-use Rattle.device.specs.Work.{Device, run, stepsLeft, stepsDone}
-use Rattle.device.specs.Calls.{device}
+use Rattle.device.specs.Work.{Device, run}
+use Rattle.device.specs.Calls.{device, After, Frame, Work, called}
+use Rattle.progress.proofs.Enabled.{enabledAs}
+use Rattle.progress.proofs.Ends.{work-quota}
 use Rattle.rules.specs.Whole.{outcome}
-use Rattle.rules.proofs.Runs.{run-idle, run-add}
-use Rattle.promises.specs.Orders.{Frame, Work, called, allCalled}
+use Rattle.promises.specs.Orders.{allCalled}
 use Rattle.promises.specs.Account.{Account, accounted}
 use Rattle.promises.specs.Examples.{Example, Ready, Given, script, Seen}
-use Rattle.promises.proofs.Enabled.{enabledAs}
-use Rattle.promises.proofs.Ends.{work-ends}
 use Rattle.promises.proofs.Sound.{started, Sound, rest-sound}
 use Rattle.promises.proofs.FirstHalf.{frame-done, work-done, next, same-device}
 
 -- given what a row says, and called as it says, a device shows what it says
-abbrev pub Holds : Example → Device → List ℕ → Type 0
-Holds p d frame = Given p d frame → Seen p d frame (allCalled (script p frame) d)
-
--- the steps done come to the quota: past the end of a job, steps change nothing
-quota-by : (n : ℕ) (d : Device) (b : Bool) → ltb n (stepsLeft d) ≡ b → run (stepsDone n d) d ≡ run n d
-quota-by n d true l =
-    let all : stepsDone n d ≡ n = omega (arith, ltb-true n (stepsLeft d) l) in
-    ap (λ (m : ℕ). run m d) all
-quota-by n d false l =
-    let left = stepsLeft d in
-    let least = ltb-false n left l in
-    let done : stepsDone n d ≡ left = omega (arith, least) in
-    let same : stepsDone (15 + left) d ≡ left = omega arith in
-    let idle : isRunning (run left d .state) ≡ false = rw same at (work-ends (15 + left) d (omega arith)) in
-    let more : n ≡ (n - left) + left = omega (arith, least) in
-    ap (λ (m : ℕ). run m d) done
-    ∙ sym (ap (λ (m : ℕ). run m d) more ∙ run-add (n - left) left d ∙ run-idle (n - left) (run left d) idle)
+abbrev pub Holds : Example → Device → List ℕ → List ℕ → Type 0
+Holds p d frame output = Given p d frame → Seen p d frame (allCalled (script p frame output) d)
 
 -- a ready device, as what an order of calls starts from
-module _ (d : Device) (ready : Ready d) where
+module _ (d : Device) (ready : Ready d) (output : List ℕ) where
   abbrev rested : Account
   rested = record { device = d; asIf = outcome d; frame = [] }
 
@@ -56,8 +38,8 @@ module _ (d : Device) (ready : Ready d) where
       (record { laid = accepted-laid (d .image) (ready .accepted); four = ready .four-keys; long = ready .long-keys }) (ready .none)
 
   -- a frame is not refused
-  pub frame-called : (frame : List ℕ) → called (Frame frame) d ≡ device (d .image) (stateAfter (classOf frame) (d .image) (d .state) frame)
-  frame-called frame = frame-done rested sound frame
+  pub frame-called : (frame : List ℕ) → called (Frame frame output) d ≡ device (d .image) (stateAfter (classOf frame) (d .image) (d .state) frame)
+  frame-called frame = ap (λ (r : After). r .device) (frame-done rested sound frame output)
 
   -- a device is ready with reset-enable on or off
   pub ready-enabled : (b : Bool) → Ready (enabledAs b d)
@@ -79,14 +61,14 @@ module _ (d : Device) (ready : Ready d) where
         rw (ne-eqb (length frame) 0 (λ none. omega (arith, none)), first, lt-ltb 1 (length frame) long)
 
     -- is taken
-    pub command-called : called (Frame frame) d ≡ started d frame
+    pub command-called : called (Frame frame output) d ≡ started d frame
     unfolding pick
     command-called = frame-called frame ∙ rw (is-command, ready .none)
 
     -- and then worked on
-    pub work-called : (n : ℕ) → called (Work n) (called (Frame frame) d) ≡ run n (started d frame)
+    pub work-called : (n : ℕ) → called (Work n) (called (Frame frame output) d) ≡ run n (started d frame)
     work-called n =
-        let taken = accounted (Frame frame) rested in
-        let same = same-device (Frame frame) rested in
-        ap (called (Work n)) (sym same) ∙ work-done taken (next (Frame frame) rested sound) n ∙ quota-by n (taken .device) _ refl
+        let taken = accounted (Frame frame output) rested in
+        let same = same-device (Frame frame output) rested in
+        ap (called (Work n)) (sym same) ∙ ap (λ (r : After). r .device) (work-done taken (next (Frame frame output) rested sound) n) ∙ work-quota n (taken .device)
         ∙ ap (run n) (same ∙ command-called)

@@ -1,58 +1,58 @@
 -- The examples whose job runs: P9, P11 and P12, and the device that the cuts of P10 find. Assumes nothing.
-use Prim.Native.Nat.{ℕ, _+_, _≤_}
+use Prim.Native.Nat.{ℕ, suc, _+_, _≤_, _<_}
 use mathlib.Core.Path.{_≡_, refl, ap, sym, subst, _∙_}
 use mathlib.Core.List.{List}
 use native.Mathlib.Omega.{arith}
 use borrow.Author.Tests.{eq-eqb}
-use lib.ListN.{take, replicate}
+use lib.ListN.{length, take, replicate}
 use Rattle.words.specs.Choice.{pick}
 use Rattle.words.specs.Words.{wordOr0}
 use Rattle.words.proofs.Table.{length-table}
 use Rattle.words.specs.Table.{field}
+use Rattle.hmac.proofs.FourBlocks.{fourth-hmac}
 use Rattle.image.specs.Slot.{isBad, rootKey}
-use Rattle.checks.specs.Layout.{counterOf}
-use Rattle.checks.specs.Checks.{stateStatus, slotStatus}
 use Rattle.jobs.specs.Jobs.{rootKind, kindOf}
 use Rattle.jobs.specs.declared.Command.the-variants.{WriteRootKey, IncrementCounter}
 use Rattle.jobs.specs.declared.Kind.{Kind}
 use Rattle.jobs.specs.declared.Kind.the-variants.{RootKeyAndCounter, Nothing, Increment}
-use Rattle.decision.specs.Signature.{signatureStatus}
-use Rattle.decision.specs.Decision.{incrementStatus, decision}
-use Rattle.plan.specs.Stores.{keyStores, stores, storeOf}
+use Rattle.checks.specs.Layout.{counterOf}
+use Rattle.checks.specs.Checks.{stateStatus, slotStatus}
 use Rattle.state.specs.declared.Key.{Key}
 use Rattle.state.specs.declared.State.{State}
 use Rattle.state.specs.Parts.{posted, sessionKey}
-use Rattle.state.specs.Refusal.{isRunning}
+use Rattle.decision.specs.Signature.{signatureStatus}
+use Rattle.decision.specs.Decision.{incrementStatus, decision}
+use Rattle.plan.specs.Stores.{keyStores, stores}
 use Rattle.plan.specs.Storing.{allStored}
 use Rattle.steps.specs.Ending.{withStep, advanced}
 use Rattle.steps.specs.Deciding.{withKept, decisionOf, decided}
-use Rattle.steps.specs.Step.{stepState, stepImage}
 use Rattle.arrival.specs.Arrival.{frameKept, jobOf, taken}
-use Rattle.device.specs.Work.{Device, stepped, run}
-use Rattle.device.specs.Calls.{device}
+use Rattle.arrival.proofs.Arrives.{arrived-starts}
+use Rattle.device.specs.Work.{Device, run}
+use Rattle.device.specs.Calls.{device, Frame, Work, called}
+use Rattle.progress.proofs.Runs.{run-add}
+use Rattle.progress.proofs.Hashing.{busy, begun, hashedAt, afterFour, four-steps}
+use Rattle.progress.proofs.Stores.{stores-left, all-made}
 use Rattle.rules.specs.Whole.{kindIn, valueIn, keyThere}
-use Rattle.rules.proofs.Runs.{run-add}
-use Rattle.rules.proofs.Hashing.{busy, fourth-hmac, begun, hashedAt, afterFour, four-steps}
-use Rattle.rules.proofs.RunsWhole.{short, arrived-starts}
-use Rattle.promises.specs.Orders.{Frame, Work, called, allCalled}
-use Rattle.promises.specs.Examples.{P9-after-14, P9-after-15, P11, P12, Ready, slotFor, InOrder, Good, Pairs, Ends, Seen}
+use Rattle.rules.proofs.RunsWhole.{short}
+use Rattle.promises.specs.Orders.{allCalled}
+use Rattle.promises.specs.Examples.{P9-before-the-end, P9-at-the-end, P11, P12, Ready, slotFor, InOrder, Good, Pairs, Ends, Seen}
 use Rattle.promises.proofs.Sound.{started}
 use Rattle.promises.proofs.ExamplesCalls.{Holds, work-called}
 use Rattle.promises.proofs.ExamplesArrival.{shaped-long, past-counter}
 
--- the stores of a root key job, after nine and ten of its eleven
-module _ (image : List ℕ) (keys : List Key) (counter : ℕ) (frame root chain made inner : List ℕ) (kept : ℕ) where
-  abbrev Stores : ℕ → Type 0
-  Stores m =
-      run m (device image (advanced (busy RootKeyAndCounter keys counter frame root 3 chain made inner kept))) ≡
-      device (allStored (take m (stores RootKeyAndCounter frame kept)) image counter)
-      (busy RootKeyAndCounter keys counter frame root (m + 4) chain made inner kept)
+-- the first stores of a root key job that pairs, some of them left
+pub some-stored :
+    (image : List ℕ) (keys : List Key) (counter : ℕ) (frame root chain made inner : List ℕ) (kept j : ℕ) →
+    j < length (stores RootKeyAndCounter frame kept) →
+    run j (device image (advanced (busy RootKeyAndCounter keys counter frame root 3 chain made inner kept))) ≡
+    device (allStored (take j (stores RootKeyAndCounter frame kept)) image counter)
+    (busy RootKeyAndCounter keys counter frame root (3 + suc j) chain made inner kept)
+unfolding withStep
+some-stored image keys counter frame root chain made inner kept j left =
+    stores-left (busy RootKeyAndCounter keys counter frame root 3 chain made inner kept) 3 refl refl image j left
 
-  pub nine-and-ten : Stores 9 × Stores 10
-  unfolding run stepped stepState stepImage isRunning pick advanced withStep storeOf keyStores allStored
-  nine-and-ten = (refl, refl)
-
-module _ (d : Device) (ready : Ready d) (frame : List ℕ) where
+module _ (d : Device) (ready : Ready d) (frame output : List ℕ) where
   abbrev c : ℕ
   c = counterOf frame
 
@@ -76,13 +76,13 @@ module _ (d : Device) (ready : Ready d) (frame : List ℕ) where
   works :
       (type : ℕ) → type ≤ 3 → InOrder type frame → slotStatus type (slotFor d frame) (sessionKey (d .state) c .there) ≡ 0 →
       (kind : Kind) → kindIn d frame ≡ kind → (after : State) → checked kind ≡ after → (m : ℕ) →
-      called (Work (m + 4)) (called (Frame frame) d) ≡ run m (device (d .image) after)
+      called (Work (m + 4)) (called (Frame frame output) d) ≡ run m (device (d .image) after)
   unfolding taken jobOf
   works type known in-order good kind is after decides m =
       let shaped = in-order .shaped in
-      let passed = eq-eqb _ 0 (past-counter d ready frame type known in-order ∙ good) in
+      let passed = eq-eqb _ 0 (past-counter d ready frame output type known in-order ∙ good) in
       let starts = arrived-starts (d .image) (d .state) frame passed ∙ ap start is in
-      work-called d ready frame (shaped .first) (shaped-long type frame shaped) (m + 4) ∙ run-add m 4 (started d frame)
+      work-called d ready output frame (shaped .first) (shaped-long type frame shaped) (m + 4) ∙ run-add m 4 (started d frame)
       ∙ ap (run m)
       (ap (λ (s : State). run 4 (device (d .image) s)) starts ∙ four-steps _ _ _ _ _ _ _ _ _ kind ∙ ap (device (d .image)) decides)
 
@@ -108,21 +108,21 @@ module _ (d : Device) (ready : Ready d) (frame : List ℕ) where
   -- a frame that pairs passes, and goes on to its stores
   pub pairing :
       Pairs d frame → (m : ℕ) →
-      called (Work (m + 4)) (called (Frame frame) d) ≡ run m (device (d .image) (advanced (hashed RootKeyAndCounter)))
+      called (Work (m + 4)) (called (Frame frame output) d) ≡ run m (device (d .image) (advanced (hashed RootKeyAndCounter)))
   unfolding kindOf rootKind slotStatus stateStatus isBad decided withKept pick
   pairing p =
       works 0 (omega arith) (p .in-order) (rw (p .root, p .counter)) RootKeyAndCounter
       (rw (p .in-order .shaped .typed, p .lasting, p .counter)) _ (rw (root-good (p .good)))
 
-  pub busy-after-14 : Holds P9-after-14 d frame
-  unfolding allCalled
-  busy-after-14 p = subst (Seen P9-after-14 d frame) (sym (pairing p 10 ∙ nine-and-ten _ _ _ _ _ _ _ _ _ .1)) (refl, refl)
+  pub busy-before-the-end : Holds P9-before-the-end d frame output
+  unfolding allCalled keyStores
+  busy-before-the-end p = subst (Seen P9-before-the-end d frame) (sym (pairing p 10 ∙ some-stored _ _ _ _ _ _ _ _ _ 10 (omega arith))) (refl, refl)
 
-  pub done-after-15 : Holds P9-after-15 d frame
-  unfolding allCalled run stepped stepState isRunning advanced withStep pick
-  done-after-15 p = subst (Ends 0x80) (sym (pairing p 11)) (refl, refl)
+  pub done-at-the-end : Holds P9-at-the-end d frame output
+  unfolding allCalled keyStores withStep
+  done-at-the-end p = subst (Ends 0x80) (sym (pairing p 11 ∙ all-made (hashed RootKeyAndCounter) 3 refl refl (d .image) 11 (omega arith))) (refl, refl)
 
-  pub temporary-key : Holds P11 d frame
+  pub temporary-key : Holds P11 d frame output
   unfolding allCalled kindOf rootKind slotStatus stateStatus isBad run decided withKept advanced pick
   temporary-key (in-order, root, counter, value, temporary, good) =
       let after =
@@ -130,7 +130,7 @@ module _ (d : Device) (ready : Ready d) (frame : List ℕ) where
       (posted (hashed Nothing) 0x80) (rw (root-good good)) 0 in
       subst (Seen P11 d frame) (sym after) ((refl, refl), value)
 
-  pub full-counter : Holds P12 d frame
+  pub full-counter : Holds P12 d frame output
   unfolding allCalled kindOf slotStatus stateStatus run decided pick
   full-counter (in-order, sane, set, key, good, told, full) =
       let after =

@@ -16,16 +16,18 @@ use Rattle.frames.specs.Classes.{classOf}
 use Rattle.checks.specs.Layout.{counterOf}
 use Rattle.state.specs.Parts.{powerOn}
 use Rattle.state.specs.Refusal.{jobRefusal, deviceRefusal}
+use Rattle.state.proofs.Running.{no-job-idle}
 use Rattle.arrival.specs.Arrival.{arrived}
-use Rattle.device.specs.Frame.{withEnabled, stateAfter}
+use Rattle.device.specs.Frame.{withEnabled, stateAfter, outputAfter}
 use Rattle.device.specs.Work.{Device, run, stepsDone}
-use Rattle.device.specs.Calls.{device, poweredUp, afterFrame, afterSteps, afterWork, imageAfterWork}
+use Rattle.device.specs.Calls.{device, poweredUp, After, Call, PowerUp, Frame, Work, called, after}
+use Rattle.device.proofs.AfterCalls.{frame-accepted, work-accepted}
+use Rattle.progress.proofs.Runs.{run-idle}
+use Rattle.progress.proofs.Jobs.{runs}
 use Rattle.rules.specs.Whole.{outcome}
-use Rattle.rules.proofs.Runs.{run-idle}
 use Rattle.promises.specs.Compared.{Alike}
-use Rattle.promises.specs.Orders.{Call, PowerUp, Frame, Work, called, numberOf, allCalled}
+use Rattle.promises.specs.Orders.{allCalled}
 use Rattle.promises.specs.Account.{Account, isBusy, goneBy, worked, cut, framed, accounted, account, begun}
-use Rattle.promises.proofs.Progress.{no-job-idle, runs}
 use Rattle.promises.proofs.Sound.{Resting, Working, Sound, rest-sound}
 use Rattle.promises.proofs.Interrupted.{below-now}
 use Rattle.promises.proofs.Calls.{formed-on, accepted-now, enabled-only, cut-off, taken-by, worked-by}
@@ -53,13 +55,20 @@ module _ (a : Account) (sound : Sound a) where
   unfolding deviceRefusal pick
   not-refused = rw (accepted-now a sound) (⊎-elim job-fits job-fits-working (sound .state))
 
-  pub frame-done : (bytes : List ℕ) → called (Frame bytes) d ≡ device (d .image) (stateAfter (classOf bytes) (d .image) (d .state) bytes)
-  unfolding afterFrame pick
-  frame-done bytes = rw not-refused
+  pub frame-done :
+      (bytes output : List ℕ) →
+      after (Frame bytes output) d ≡
+      record {
+        number = 0;
+        steps = 0;
+        output = outputAfter (classOf bytes) (d .state) output;
+        device = device (d .image) (stateAfter (classOf bytes) (d .image) (d .state) bytes);
+      }
+  frame-done bytes output = frame-accepted d bytes output not-refused
 
-  pub work-done : (quota : ℕ) → called (Work quota) d ≡ run (stepsDone quota d) d
-  unfolding afterWork imageAfterWork afterSteps pick
-  work-done quota = rw not-refused
+  pub work-done :
+      (quota : ℕ) → after (Work quota) d ≡ record { number = 0; steps = stepsDone quota d; output = []; device = run (stepsDone quota d) d }
+  work-done quota = work-accepted d quota not-refused
 
 -- a frame, by its class
 module _ (a : Account) (sound : Sound a) (bytes : List ℕ) where
@@ -104,11 +113,11 @@ module _ (a : Account) (sound : Sound a) (bytes : List ℕ) where
 pub next : (call : Call) (a : Account) → Sound a → Sound (accounted call a)
 unfolding poweredUp
 next PowerUp a sound = cut-off a sound
-next (Frame bytes) a sound =
-    subst (λ (after : Device). Sound (framed (classOf bytes) bytes after a)) (sym (frame-done a sound bytes))
+next (Frame bytes output) a sound =
+    subst (λ (r : After). Sound (framed (classOf bytes) bytes (r .device) a)) (sym (frame-done a sound bytes output))
     (after-frame a sound bytes (classOf bytes))
 next (Work quota) a sound =
-    subst (λ (after : Device). Sound (pick (isBusy (a .device)) (worked after (a .frame) a) (goneBy after a))) (sym (work-done a sound quota))
+    subst (λ (r : After). Sound (pick (isBusy (a .device)) (worked (r .device) (a .frame) a) (goneBy (r .device) a))) (sym (work-done a sound quota))
     (after-work a sound [] (stepsDone quota (a .device)) (isBusy (a .device)) refl)
 
 pub all-sound : (calls : List Call) (a : Account) → Sound a → Sound (account calls a)
@@ -131,32 +140,28 @@ pub first-half :
 first-half image accepted calls none =
     at-rest (account calls (begun image)) (all-sound calls (begun image) (start-sound image accepted)) none .alike
 
-done : (call : Call) (a : Account) → Sound a → numberOf call (a .device) ≡ 0
-unfolding poweredUp afterFrame afterWork afterSteps pick
+done : (call : Call) (a : Account) → Sound a → after call (a .device) .number ≡ 0
+unfolding poweredUp
 done PowerUp a sound = accepted-now a sound
-done (Frame bytes) a sound =
-    let e : afterFrame (a .device .image) (a .device .state) bytes .number ≡ 0 = rw (not-refused a sound) in
-    e
-done (Work quota) a sound =
-    let e : afterWork (a .device) quota .number ≡ 0 = rw (not-refused a sound) in
-    e
+done (Frame bytes output) a sound = ap (λ (r : After). r .number) (frame-done a sound bytes output)
+done (Work quota) a sound = ap (λ (r : After). r .number) (work-done a sound quota)
 
 -- No call of the order is refused.
 pub none-refused :
-    (image : List ℕ) → refusal image ≡ 0 → (calls : List Call) (call : Call) → numberOf call (account calls (begun image) .device) ≡ 0
+    (image : List ℕ) → refusal image ≡ 0 → (calls : List Call) (call : Call) → after call (account calls (begun image) .device) .number ≡ 0
 none-refused image accepted calls call = done call (account calls (begun image)) (all-sound calls (begun image) (start-sound image accepted))
 
 -- the device of the account is the device
 pub same-device : (call : Call) (a : Account) → accounted call a .device ≡ called call (a .device)
 same-device PowerUp a = refl
-same-device (Frame bytes) a = by-class (classOf bytes)
+same-device (Frame bytes output) a = by-class (classOf bytes)
   where
-    by-class : (class : Class) → framed class bytes (called (Frame bytes) (a .device)) a .device ≡ called (Frame bytes) (a .device)
+    by-class : (class : Class) → framed class bytes (called (Frame bytes output) (a .device)) a .device ≡ called (Frame bytes output) (a .device)
     by-class Empty = refl
     by-class EnableReset = refl
-    by-class Reset = either (λ (b : Account). b .device ≡ called (Frame bytes) (a .device)) _ _ _ (λ _. refl) (λ _. refl)
+    by-class Reset = either (λ (b : Account). b .device ≡ called (Frame bytes output) (a .device)) _ _ _ (λ _. refl) (λ _. refl)
     by-class Read = refl
-    by-class Command = either (λ (b : Account). b .device ≡ called (Frame bytes) (a .device)) _ _ _ (λ _. refl) (λ _. refl)
+    by-class Command = either (λ (b : Account). b .device ≡ called (Frame bytes output) (a .device)) _ _ _ (λ _. refl) (λ _. refl)
     by-class Unnamed = refl
 same-device (Work quota) a = either (λ (b : Account). b .device ≡ called (Work quota) (a .device)) _ _ _ (λ _. refl) (λ _. refl)
 

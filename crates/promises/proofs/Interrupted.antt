@@ -1,46 +1,37 @@
 -- A job that is cut off: what it leaves in the image is as if its frame had dropped out, or had set its counter to 0 only.
 -- Assumes nothing.
-use Prim.Native.Nat.{ℕ, zero, suc, _+_, _-_, _<_}
+use Prim.Native.Nat.{ℕ, _+_, _-_, _<_}
 use mathlib.Core.Path.{_≡_, refl, ap, sym, subst, _∙_}
 use mathlib.Core.Logic.{⊎-elim}
 use mathlib.Core.Bool.{Bool, true, false}
-use mathlib.Core.List.{List, [], _∷_}
+use mathlib.Core.List.{List}
 use native.Mathlib.Omega.{arith}
 use borrow.Author.Tests.{eqb-true, eqb-false}
-use lib.Dec.{leb, eqb}
+use lib.Dec.{eqb}
 use lib.ListN.{getD, take}
 use Rattle.words.specs.Choice.{pick}
 use Rattle.words.specs.Table.{table}
-use Rattle.words.proofs.Choice.{both}
 use Rattle.image.specs.Header.{count, slotAt}
 use Rattle.image.specs.Slot.{slotOf, isSet}
 use Rattle.image.proofs.Laid.{SameHeader, then-header, back-header, Laid, same-laid}
 use Rattle.image.proofs.Slots.{slotBytes, root-in, counter-in}
-use Rattle.checks.specs.Layout.{counterOf}
 use Rattle.jobs.specs.Jobs.{commandOf, hashSteps}
 use Rattle.jobs.specs.declared.Kind.{Kind}
 use Rattle.jobs.specs.declared.Kind.the-variants.{RootKeyAndCounter, RootKey, CounterOnly, Nothing, SessionKey, Increment, Request}
+use Rattle.checks.specs.Layout.{counterOf}
 use Rattle.plan.specs.declared.Store.{Store}
 use Rattle.plan.specs.Stores.{stores}
-use Rattle.plan.proofs.InSlot.{allInside, putAll, all-stored, inside-slot, InSlot}
+use Rattle.plan.proofs.InSlot.{putAll, InSlot, made, some-made}
+use Rattle.plan.proofs.Plans.{plan-length}
 use Rattle.arrival.specs.Arrival.{frameKept}
 use Rattle.rules.specs.Whole.{Outcome, kindIn}
+use Rattle.rules.proofs.Taken.{Facts, below-count, facts}
 use Rattle.promises.specs.Compared.{Counter, counterIn}
 use Rattle.promises.specs.Account.{Account, hasSet, setTo0, interrupted}
 use Rattle.promises.proofs.Counters.{readCounter, counter-read}
-use Rattle.promises.proofs.Taken.{Facts, below-count, facts}
-use Rattle.promises.proofs.WholeOwn.{made, own-after, other-after}
-use Rattle.promises.proofs.Progress.{plan-length}
+use Rattle.promises.proofs.WholeOwn.{own-after, other-after}
 use Rattle.promises.proofs.Cuts.{zeroed, Known, Cut, cut-off}
 use Rattle.promises.proofs.Sound.{Working}
-
-inside-some : (ss : List Store) (j : ℕ) → allInside ss ≡ true → allInside (take j ss) ≡ true
-unfolding allInside pick
-inside-some ss zero e = refl
-inside-some [] (suc j) e = refl
-inside-some (store ∷ more) (suc j) e =
-    let parts = both (leb (store .at + 4) 48) (allInside more) e in
-    rw (parts .0) (inside-some more j (parts .1))
 
 same-not-new : (x : Bool) → pick x false x ≡ false
 unfolding pick
@@ -75,9 +66,7 @@ module _ (a : Account) (w : Working a) where
   below = below-count (w .found) (a .frame) (w .passed)
 
   some : InSlot (take done plan) found c
-  some =
-      all-stored (take done plan) found c (w .formed .laid) below
-      (inside-some plan done (inside-slot kind (frameKept (a .frame)) (a .device .state .job .kept)))
+  some = some-made kind (frameKept (a .frame)) (a .device .state .job .kept) found c (w .formed .laid) below done
 
   header-found : SameHeader image found
   header-found = subst (λ (i : List ℕ). SameHeader i found) (sym (w .at .stored-so-far)) (some .header)

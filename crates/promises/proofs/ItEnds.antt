@@ -1,7 +1,7 @@
--- It ends: a work call with a quota of 15 or more leaves the device idle, and no job comes to 15 steps, whatever happens in between.
--- Assumes nothing.
+-- It ends: a work call with a quota of the longest job or more leaves the device idle, and no job comes to more steps than the longest
+-- has, whatever happens in between. Assumes nothing.
 use Prim.Native.Nat.{ℕ, _+_, _≤_, _<_}
-use mathlib.Core.Path.{_≡_, refl, ap, sym, _∙_}
+use mathlib.Core.Path.{_≡_, refl, ap, sym, subst, _∙_}
 use mathlib.Core.Logic.{⊎-elim}
 use mathlib.Core.Bool.{Bool, true, false}
 use mathlib.Core.List.{List}
@@ -12,19 +12,19 @@ use Rattle.image.specs.Refusal.{refusal}
 use Rattle.frames.specs.declared.Class.{Class}
 use Rattle.frames.specs.declared.Class.the-variants.{Empty, EnableReset, Reset, Read, Command, Unnamed}
 use Rattle.frames.specs.Classes.{classOf}
+use Rattle.jobs.specs.Jobs.{longest}
+use Rattle.jobs.proofs.Longest.{at-most}
 use Rattle.state.specs.declared.State.{State}
 use Rattle.state.specs.Refusal.{isRunning}
-use Rattle.state.proofs.Running.{at-most-15}
 use Rattle.device.specs.Frame.{withEnabled, stateAfter}
 use Rattle.device.specs.Work.{Device, run, stepsDone}
-use Rattle.device.specs.Calls.{device, poweredUp, afterFrame, afterSteps, afterWork}
+use Rattle.device.specs.Calls.{device, poweredUp, After, Call, PowerUp, Frame, Work, called, after}
+use Rattle.progress.proofs.Jobs.{runs, progress}
+use Rattle.progress.proofs.Ends.{work-ends}
 use Rattle.rules.specs.Whole.{kindIn}
-use Rattle.promises.specs.Orders.{Call, PowerUp, Frame, Work, called, stepsOf}
 use Rattle.promises.specs.Account.{Account, isBusy, accounted, account, begun}
-use Rattle.promises.proofs.Progress.{runs, progress}
-use Rattle.promises.proofs.Ends.{work-ends}
 use Rattle.promises.proofs.Sound.{Sound}
-use Rattle.promises.proofs.FirstHalf.{not-refused, frame-done, work-done, next, all-sound, start-sound, same-device}
+use Rattle.promises.proofs.FirstHalf.{frame-done, work-done, next, all-sound, start-sound, same-device}
 
 -- a job that is there runs
 busy-runs : (a : Account) → Sound a → isBusy (a .device) ≡ true → isRunning (a .device .state) ≡ true
@@ -32,15 +32,15 @@ busy-runs a sound busy =
     ⊎-elim (λ r. absurd (never (sym (r .none) ∙ busy))) (λ w. runs _ _ _ _ _ (a .device .image) (a .device .state) (w .at) (w .left))
     (sound .state)
 
--- a work call with a quota of 15 or more leaves the device idle
-module _ (a : Account) (sound : Sound a) (quota : ℕ) (enough : 15 ≤ quota) where
+-- a work call with a quota of the longest job or more leaves the device idle
+module _ (a : Account) (sound : Sound a) (quota : ℕ) (enough : longest ≤ quota) where
   idle-by : (b : Bool) → isBusy (called (Work quota) (a .device)) ≡ b → isBusy (called (Work quota) (a .device)) ≡ false
   idle-by true e =
       let same = same-device (Work quota) a in
       let running = busy-runs (accounted (Work quota) a) (next (Work quota) a sound) (ap isBusy same ∙ e) in
       absurd
       (never
-      (sym (work-ends quota (a .device) enough) ∙ sym (ap (λ (d : Device). isRunning (d .state)) (same ∙ work-done a sound quota)) ∙ running))
+      (sym (work-ends quota (a .device) enough) ∙ sym (ap (λ (d : Device). isRunning (d .state)) (same ∙ ap (λ (r : After). r .device) (work-done a sound quota))) ∙ running))
   idle-by false e = e
 
   pub idle-after-work : isBusy (called (Work quota) (a .device)) ≡ false
@@ -72,30 +72,18 @@ module _ (a : Account) (sound : Sound a) (busy : isBusy (a .device) ≡ true) wh
       ⊎-elim (λ r. absurd (never (sym (r .none) ∙ busy)))
       (λ w. progress _ _ _ _ (w .steps) d (w .at) (w .left) m there .0 .step ∙ ap (λ (n : ℕ). m + n) (sym (w .at .step))) (sound .state)
 
-  frame-steps : (bytes : List ℕ) → afterFrame (d .image) (d .state) bytes .steps ≡ 0
-  unfolding afterFrame pick
-  frame-steps bytes = rw (not-refused a sound)
+  -- what a call leaves is as old as it says
+  as-old : (r left : After) → r ≡ left → Older (left .steps) (left .device .state) → Older (r .steps) (r .device .state)
+  as-old r left same old = subst (λ (x : After). Older (x .steps) (x .device .state)) (sym same) old
 
-  work-steps : (quota : ℕ) → afterWork d quota .steps ≡ stepsDone quota d
-  unfolding afterWork afterSteps pick
-  work-steps quota = rw (not-refused a sound)
-
-  -- what is left is as old as a call says
-  as-old : (steps reported : ℕ) (e after : Device) → e ≡ after → reported ≡ steps → Older steps (after .state) → Older reported (e .state)
-  as-old steps reported e after same number old there =
-      ap (λ (x : Device). x .state .job .step) same ∙ old (sym (ap isBusy same) ∙ there) ∙ ap (λ (n : ℕ). n + d .state .job .step) (sym number)
-
-  pub older : (call : Call) → Older (stepsOf call d) (called call d .state)
+  pub older : (call : Call) → Older (after call d .steps) (called call d .state)
   unfolding poweredUp
   older PowerUp = λ gone. absurd (never gone)
-  older (Frame bytes) =
-      as-old 0 (stepsOf (Frame bytes) d) (called (Frame bytes) d) _ (frame-done a sound bytes) (frame-steps bytes)
-      (frame-age bytes (classOf bytes))
-  older (Work quota) =
-      as-old (stepsDone quota d) (stepsOf (Work quota) d) (called (Work quota) d) _ (work-done a sound quota) (work-steps quota)
-      (work-age (stepsDone quota d))
+  older (Frame bytes output) =
+      as-old (after (Frame bytes output) d) _ (frame-done a sound bytes output) (frame-age bytes (classOf bytes))
+  older (Work quota) = as-old (after (Work quota) d) _ (work-done a sound quota) (work-age (stepsDone quota d))
 
--- After any order of calls, a work call with a quota of 15 or more leaves the device idle.
+-- After any order of calls, a work call with a quota of the longest job or more leaves the device idle.
 module _ (image : List ℕ) (accepted : refusal image ≡ 0) (calls : List Call) where
   abbrev a : Account
   a = account calls (begun image)
@@ -103,16 +91,16 @@ module _ (image : List ℕ) (accepted : refusal image ≡ 0) (calls : List Call)
   sound : Sound a
   sound = all-sound calls (begun image) (start-sound image accepted)
 
-  pub idle-after-15 : (quota : ℕ) → 15 ≤ quota → isBusy (called (Work quota) (a .device)) ≡ false
-  idle-after-15 quota enough = idle-after-work a sound quota enough
+  pub idle-after-longest : (quota : ℕ) → longest ≤ quota → isBusy (called (Work quota) (a .device)) ≡ false
+  idle-after-longest quota enough = idle-after-work a sound quota enough
 
-  -- A job that is there grows older by the steps that each call reports, and has done fewer than 15.
+  -- A job that is there grows older by the steps that each call reports, and has done fewer than the longest has.
   pub steps-counted :
       (call : Call) → isBusy (a .device) ≡ true → isBusy (called call (a .device)) ≡ true →
-      called call (a .device) .state .job .step ≡ stepsOf call (a .device) + a .device .state .job .step
+      called call (a .device) .state .job .step ≡ after call (a .device) .steps + a .device .state .job .step
   steps-counted call busy still = older a sound busy call still
 
-  pub fewer-than-15 : isBusy (a .device) ≡ true → a .device .state .job .step < 15
-  fewer-than-15 busy =
+  pub fewer-than-longest : isBusy (a .device) ≡ true → a .device .state .job .step < longest
+  fewer-than-longest busy =
       ⊎-elim (λ r. absurd (never (sym (r .none) ∙ busy)))
-      (λ w. omega (arith, w .left, w .at .step, at-most-15 (kindIn (w .found) (a .frame)))) (sound .state)
+      (λ w. omega (arith, w .left, w .at .step, at-most (kindIn (w .found) (a .frame)))) (sound .state)

@@ -10,19 +10,19 @@ use Rattle.words.proofs.Choice.{never}
 use Rattle.image.specs.Header.{count}
 use Rattle.image.specs.Slot.{slotOf, isSet, isBad, rootKey}
 use Rattle.image.proofs.Laid.{SameHeader}
-use Rattle.checks.specs.Layout.{typeOf, counterOf}
-use Rattle.checks.specs.Checks.{shapeStatus, counterStatus, slotStatus, arrivalStatus}
 use Rattle.jobs.specs.Jobs.{commandOf}
 use Rattle.jobs.specs.declared.Kind.{Kind}
 use Rattle.jobs.specs.declared.Kind.the-variants.{RootKeyAndCounter, RootKey, CounterOnly, Nothing, SessionKey, Increment, Request}
-use Rattle.decision.specs.Decision.{decision}
+use Rattle.checks.specs.Layout.{typeOf, counterOf}
+use Rattle.checks.specs.Checks.{shapeStatus, counterStatus, slotStatus, arrivalStatus}
 use Rattle.state.specs.declared.Key.{Key}
 use Rattle.state.specs.Parts.{sessionKey}
+use Rattle.decision.specs.Decision.{decision}
 use Rattle.arrival.specs.Arrival.{statusOnArrival}
 use Rattle.device.specs.Work.{Device}
 use Rattle.rules.specs.Whole.{kindIn, keyThere, newKey, lastChecks, allChecks}
+use Rattle.rules.proofs.Taken.{Facts, below-count, facts}
 use Rattle.promises.specs.Compared.{Counter, counterIn}
-use Rattle.promises.proofs.Taken.{Facts, below-count, facts}
 
 -- two devices that are the same to a frame: the header, its counter as it is compared, and its session key
 pub record SameTo (frame : List ℕ) (d e : Device) : Type 0 where

@@ -3,28 +3,32 @@
 use Prim.Native.Nat.{ℕ, _+_, _≤_, _<_}
 use mathlib.Core.Path.{_≡_}
 use mathlib.Core.Bool.{true, false}
-use mathlib.Core.List.{List, _∷_}
+use mathlib.Core.List.{List, [], _∷_}
 use lib.ListN.{length, getD}
 use Rattle.image.specs.Header.{count}
 use Rattle.image.specs.Refusal.{refusal}
+use Rattle.jobs.specs.Jobs.{longest}
+use Rattle.jobs.proofs.Longest.{longest-is}
 use Rattle.state.specs.Parts.{noKey, powerOn}
-use Rattle.state.specs.Refusal.{isRunning}
+use Rattle.state.specs.Refusal.{isRunning, deviceRefusal}
 use Rattle.device.specs.Work.{Device, run}
-use Rattle.device.specs.Calls.{device, outputAfterFrame, afterWork}
+use Rattle.device.specs.Calls.{device, After, Call, PowerUp, Frame, Work, called, after}
+use Rattle.device.proofs.AfterCalls.{power-up-keeps, frame-refused, work-refused}
+use Rattle.progress.proofs.Ends.{ends}
+use Rattle.rules.proofs.TooShort.{short-refused}
 use Rattle.rules.specs.Whole.{Outcome, outcome, failedWith, whole}
 use Rattle.promises.specs.Compared.{counterIn, Alike}
-use Rattle.promises.specs.Orders.{Call, PowerUp, Frame, Work, called, numberOf, stepsOf, allCalled}
+use Rattle.promises.specs.Orders.{allCalled}
 use Rattle.promises.specs.Account.{isBusy, account, begun}
 use Rattle.promises.specs.Reordering.{ownFrames, allWhole, ownStatuses, eachRun, Commands}
 use Rattle.promises.specs.Examples.{Example, Ready, Given, script, Seen}
-use Rattle.promises.proofs.WholeOwn.{Formed}
-use Rattle.promises.proofs.Ends.{ends}
+use Rattle.promises.specs.Formed.{Formed}
 use Rattle.promises.proofs.FirstHalf.{all-sound, start-sound, first-half, none-refused}
-use Rattle.promises.proofs.SecondHalf.{short-refused, same-counter, same-session, same-statuses}
+use Rattle.promises.proofs.SecondHalf.{same-counter, same-session, same-statuses}
 use Rattle.promises.proofs.Reordered.{reordered-counter, reordered-session}
-use Rattle.promises.proofs.ItEnds.{idle-after-15, steps-counted, fewer-than-15}
-use Rattle.promises.proofs.Refused.{power-up-keeps, frame-refused, work-refused}
-use Rattle.promises.proofs.Functions.{Ran, functions-first-half}
+use Rattle.promises.proofs.ItEnds.{idle-after-longest, steps-counted, fewer-than-longest}
+use Rattle.promises.specs.Functions.{Did, Ran}
+use Rattle.promises.proofs.Functions.{did-after, functions-first-half}
 use Rattle.promises.proofs.Examples.{examples}
 
 -- "Whatever the order of frames, steps, resets and power cuts, once idle the device is as if the frames that found it idle had run
@@ -41,6 +45,10 @@ pub functions-as-if-whole :
     Alike (outcome e) (account calls (begun (d .image)) .asIf)
 functions-as-if-whole = functions-first-half
 
+-- Each of these functions leaves what is said of its call, number, steps, output, image and state.
+pub functions-leave : (call : Call) (d : Device) (r : After) → Did call d r → after call d ≡ r
+functions-leave = did-after
+
 -- "Frames on different counters commute." Of frames that run whole, in two orders in which a counter has the same frames in the same
 -- order: no counter, no key and no frame's own final status changes. "A two-byte one belongs to no counter", and ends with 04h.
 pub counters-commute :
@@ -53,51 +61,56 @@ counters-commute c fs gs o formed order =
 pub two-bytes-fail : (d : Device) (frame : List ℕ) → length frame ≤ 2 → whole d frame ≡ failedWith 0x04 d
 two-bytes-fail = short-refused
 
--- The same of the device, after any calls that leave it idle: each command frame is sent and gets its 15 steps.
+-- The same of the device, after any calls that leave it idle: each command frame is sent and gets the steps of the longest job.
 pub device-commutes :
     (image : List ℕ) (accepted : refusal image ≡ 0) (calls : List Call) (quiet : isBusy (account calls (begun image) .device) ≡ false)
-    (fs gs : List (List ℕ)) → Commands fs → Commands gs → (c : ℕ) → ownFrames c fs ≡ ownFrames c gs →
+    (output : List ℕ) (fs gs : List (List ℕ)) → Commands fs → Commands gs → (c : ℕ) → ownFrames c fs ≡ ownFrames c gs →
     c < count (account calls (begun image) .asIf .image) →
-    (counterIn (account (eachRun fs) (account calls (begun image)) .device .image) c ≡
-    counterIn (account (eachRun gs) (account calls (begun image)) .device .image) c)
-    × (getD (account (eachRun fs) (account calls (begun image)) .device .state .keys) c noKey ≡
-    getD (account (eachRun gs) (account calls (begun image)) .device .state .keys) c noKey)
-device-commutes image accepted calls quiet fs gs commands-f commands-g c order below =
+    (counterIn (account (eachRun output fs) (account calls (begun image)) .device .image) c ≡
+    counterIn (account (eachRun output gs) (account calls (begun image)) .device .image) c)
+    × (getD (account (eachRun output fs) (account calls (begun image)) .device .state .keys) c noKey ≡
+    getD (account (eachRun output gs) (account calls (begun image)) .device .state .keys) c noKey)
+device-commutes image accepted calls quiet output fs gs commands-f commands-g c order below =
     let a = account calls (begun image) in
     let sound = all-sound calls (begun image) (start-sound image accepted) in (
-      reordered-counter a sound quiet fs gs commands-f commands-g c order below,
-      reordered-session a sound quiet fs gs commands-f commands-g c order,
+      reordered-counter a sound quiet output fs gs commands-f commands-g c order below,
+      reordered-session a sound quiet output fs gs commands-f commands-g c order,
     )
 
--- "So busy clears after at most 15 steps": of any device, and of a work call after any calls; a job that is there is older by the
--- steps that each call reports.
-pub fifteen-are-enough : (d : Device) → isRunning (run 15 d .state) ≡ false
-fifteen-are-enough = ends
+-- "So busy clears after at most 15 steps", which the longest job has: after as many no job runs, of any device, and a work call with
+-- that quota leaves the device idle after any calls; a job that is there is older by the steps that each call reports.
+pub longest-job : longest ≡ 15
+longest-job = longest-is
+
+pub longest-is-enough : (d : Device) → isRunning (run longest d .state) ≡ false
+longest-is-enough = ends
 
 pub it-ends :
-    (image : List ℕ) → refusal image ≡ 0 → (calls : List Call) (quota : ℕ) → 15 ≤ quota →
+    (image : List ℕ) → refusal image ≡ 0 → (calls : List Call) (quota : ℕ) → longest ≤ quota →
     isBusy (called (Work quota) (account calls (begun image) .device)) ≡ false
-it-ends = idle-after-15
+it-ends = idle-after-longest
 
 pub every-step-counts :
     (image : List ℕ) → refusal image ≡ 0 → (calls : List Call) (call : Call) → isBusy (account calls (begun image) .device) ≡ true →
     isBusy (called call (account calls (begun image) .device)) ≡ true →
     called call (account calls (begun image) .device) .state .job .step ≡
-    stepsOf call (account calls (begun image) .device) + account calls (begun image) .device .state .job .step
+    after call (account calls (begun image) .device) .steps + account calls (begun image) .device .state .job .step
 every-step-counts = steps-counted
 
-pub no-fifteenth :
+pub never-longer :
     (image : List ℕ) → refusal image ≡ 0 → (calls : List Call) → isBusy (account calls (begun image) .device) ≡ true →
-    account calls (begun image) .device .state .job .step < 15
-no-fifteenth = fewer-than-15
+    account calls (begun image) .device .state .job .step < longest
+never-longer = fewer-than-longest
 
 -- "Refused calls change no lent byte, return the state handed in and report 0 steps; a refused power-up returns the power-on state."
 pub refused-frame :
-    (d : Device) (bytes output : List ℕ) → (numberOf (Frame bytes) d ≡ 0 → ⊥) →
-    (called (Frame bytes) d ≡ d) × (outputAfterFrame (d .image) (d .state) bytes output ≡ output)
+    (d : Device) (bytes output : List ℕ) → (after (Frame bytes output) d .number ≡ 0 → ⊥) →
+    after (Frame bytes output) d ≡ record { number = deviceRefusal (d .image) (d .state); steps = 0; output = output; device = d }
 refused-frame = frame-refused
 
-pub refused-work : (d : Device) (quota : ℕ) → (numberOf (Work quota) d ≡ 0 → ⊥) → (called (Work quota) d ≡ d) × (afterWork d quota .steps ≡ 0)
+pub refused-work :
+    (d : Device) (quota : ℕ) → (after (Work quota) d .number ≡ 0 → ⊥) →
+    after (Work quota) d ≡ record { number = deviceRefusal (d .image) (d .state); steps = 0; output = []; device = d }
 refused-work = work-refused
 
 pub any-power-up : (d : Device) → called PowerUp d ≡ device (d .image) powerOn
@@ -105,9 +118,9 @@ any-power-up = power-up-keeps
 
 -- "A refused call is no part of the order": and in an order from an accepted image there is none.
 pub never-refused :
-    (image : List ℕ) → refusal image ≡ 0 → (calls : List Call) (call : Call) → numberOf call (account calls (begun image) .device) ≡ 0
+    (image : List ℕ) → refusal image ≡ 0 → (calls : List Call) (call : Call) → after call (account calls (begun image) .device) .number ≡ 0
 never-refused = none-refused
 
 -- "Cases marked P are proved about the specification, as a single table under one theorem."
-pub cases-marked-P : (p : Example) (d : Device) (frame : List ℕ) → Ready d → Given p d frame → Seen p d frame (allCalled (script p frame) d)
+pub cases-marked-P : (p : Example) (d : Device) (frame output : List ℕ) → Ready d → Given p d frame → Seen p d frame (allCalled (script p frame output) d)
 cases-marked-P = examples

@@ -5,43 +5,24 @@ use mathlib.Core.Path.{_≡_, refl, ap, sym, subst, _∙_}
 use mathlib.Core.Logic.{_⊎_, inl, inr, ⊎-elim}
 use mathlib.Core.Bool.{Bool, true, false}
 use mathlib.Core.List.{List, [], _∷_}
-use native.Mathlib.Omega.{arith}
-use borrow.Author.Tests.{ltb-false, eqb-true, eqb-false, ne-eqb}
+use borrow.Author.Tests.{ltb-false, eqb-true, eqb-false}
 use lib.Dec.{ltb, eqb}
 use lib.ListN.{length, getD}
 use Rattle.words.specs.Choice.{pick}
-use Rattle.words.proofs.Choice.{both, either}
+use Rattle.words.proofs.Choice.{both}
 use Rattle.image.specs.Header.{count}
 use Rattle.image.proofs.Laid.{SameHeader, same-header, then-header, back-header}
-use Rattle.checks.specs.Layout.{typeOf, counterOf, frameLength}
-use Rattle.checks.specs.Checks.{shapeStatus, arrivalStatus}
+use Rattle.checks.specs.Layout.{counterOf}
 use Rattle.state.specs.Parts.{noKey}
-use Rattle.arrival.specs.Arrival.{statusOnArrival}
-use Rattle.device.specs.Work.{Device}
-use Rattle.rules.specs.Whole.{Outcome, allChecks, failedWith, whole}
+use Rattle.rules.proofs.TooShort.{short-refused}
+use Rattle.rules.specs.Whole.{Outcome, failedWith, whole}
 use Rattle.promises.specs.Compared.{counterIn}
 use Rattle.promises.specs.Account.{idle}
 use Rattle.promises.specs.Reordering.{belongs, ownFrames, allWhole, ownStatuses}
 use Rattle.promises.proofs.Own.{SameTo}
-use Rattle.promises.proofs.WholeOwn.{Formed, Kept, whole-kept, whole-same}
+use Rattle.promises.specs.Formed.{Formed}
+use Rattle.promises.proofs.WholeOwn.{Kept, whole-kept, whole-same}
 use Rattle.promises.proofs.Alikes.{whole-formed}
-
--- no frame has two bytes or fewer
-long-frames : (type : ℕ) → 40 ≤ frameLength type
-unfolding frameLength
-long-frames type =
-    either (λ (n : ℕ). 40 ≤ n) (eqb type 0) 64 _ (λ _. omega arith) (λ _. either (λ (n : ℕ). 40 ≤ n) (eqb type 3) 48 40 (λ _. omega arith) (λ _. omega arith))
-
-short-shape : (frame : List ℕ) → length frame ≤ 2 → shapeStatus frame ≡ 0x04
-unfolding shapeStatus pick
-short-shape frame h =
-    let long = long-frames (typeOf frame) in
-    rw (ne-eqb (length frame) (frameLength (typeOf frame)) (λ e. omega (arith, long, e))) (either (λ (n : ℕ). n ≡ 0x04) (ltb 3 (typeOf frame)) 0x04 0x04 (λ _. refl) (λ _. refl))
-
--- so a frame that belongs to no counter fails, and changes no counter and no key
-pub short-refused : (d : Device) (frame : List ℕ) → length frame ≤ 2 → whole d frame ≡ failedWith 0x04 d
-unfolding whole allChecks statusOnArrival arrivalStatus pick
-short-refused d frame h = rw (short-shape frame h)
 
 -- two outcomes that are the same to a counter: what is compared of it, and its session key
 pub record SameOf (c : ℕ) (o p : Outcome) : Type 0 where

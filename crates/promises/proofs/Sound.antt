@@ -6,17 +6,17 @@ use mathlib.Core.Bool.{Bool, false}
 use mathlib.Core.List.{List, []}
 use Rattle.image.specs.Refusal.{refusal}
 use Rattle.image.proofs.Laid.{SameHeader, same-header}
-use Rattle.checks.specs.Layout.{counterOf}
 use Rattle.jobs.specs.Jobs.{lengthOf}
+use Rattle.checks.specs.Layout.{counterOf}
 use Rattle.arrival.specs.Arrival.{frameKept, statusOnArrival, arrived}
 use Rattle.device.specs.Work.{Device, run}
 use Rattle.device.specs.Calls.{device}
+use Rattle.progress.proofs.Jobs.{At}
+use Rattle.progress.proofs.Enabled.{enabledAs}
 use Rattle.rules.specs.Whole.{outcome, kindIn}
 use Rattle.promises.specs.Compared.{Alike}
 use Rattle.promises.specs.Account.{Account}
-use Rattle.promises.proofs.WholeOwn.{Formed}
-use Rattle.promises.proofs.Progress.{At}
-use Rattle.promises.proofs.Enabled.{enabledAs}
+use Rattle.promises.specs.Formed.{Formed}
 
 -- no job: the device is as if
 pub record Resting (a : Account) : Type 0 where

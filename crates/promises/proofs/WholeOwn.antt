@@ -12,50 +12,45 @@ use Rattle.words.specs.Choice.{pick}
 use Rattle.image.specs.Header.{count, slotAt}
 use Rattle.image.specs.Slot.{slotOf}
 use Rattle.image.proofs.Laid.{SameHeader, same-header, Laid, same-laid}
-use Rattle.checks.specs.Layout.{counterOf}
 use Rattle.jobs.specs.Jobs.{commandOf}
 use Rattle.jobs.specs.declared.Kind.{Kind}
 use Rattle.jobs.specs.declared.Kind.the-variants.{RootKeyAndCounter, RootKey, CounterOnly, Nothing, SessionKey, Increment, Request}
-use Rattle.plan.specs.Stores.{stores}
+use Rattle.checks.specs.Layout.{counterOf}
 use Rattle.state.specs.declared.Key.{Key}
 use Rattle.state.specs.Parts.{noKey}
+use Rattle.plan.specs.Stores.{stores}
 use Rattle.plan.specs.Storing.{allStored}
-use Rattle.plan.proofs.InSlot.{all-stored, inside-slot, InSlot}
+use Rattle.plan.proofs.InSlot.{InSlot, made}
 use Rattle.steps.specs.Deciding.{keptAfter}
 use Rattle.arrival.specs.Arrival.{frameKept, statusOnArrival}
 use Rattle.device.specs.Work.{Device}
 use Rattle.rules.specs.Whole.{Outcome, kindIn, valueIn, allChecks, failedWith, keysAfter, replyAfter, imageAfter, carriedOut, whole}
+use Rattle.rules.proofs.Taken.{Facts, below-count, facts, or-zero, one-end}
+use Rattle.promises.specs.Formed.{Formed}
 use Rattle.promises.specs.Compared.{counterIn}
 use Rattle.promises.proofs.Counters.{readCounter, counter-read, counterAfter, after-stores}
-use Rattle.promises.proofs.Taken.{Facts, below-count, facts, or-zero, one-end}
 use Rattle.promises.proofs.Own.{SameTo, key-there-same, kind-same, new-key-same, value-same, checks-same}
-
--- an accepted image, and four session keys of 32 bytes
-pub record Formed (image : List ℕ) (keys : List Key) : Type 0 where
-  pub laid : Laid image
-  pub four : length keys ≡ 4
-  pub long : (k : ℕ) → length (getD keys k noKey .bytes) ≡ 32
 
 -- the stores of a kind of job
 module _ (kind : Kind) (frame : List ℕ) (kept : ℕ) (image : List ℕ) (c : ℕ) (laid : Laid image) (below : c < count image) where
   abbrev after : List ℕ
   after = allStored (stores kind frame kept) image c
 
-  pub made : InSlot (stores kind frame kept) image c
-  made = all-stored (stores kind frame kept) image c laid below (inside-slot kind frame kept)
+  abbrev in-slot : InSlot (stores kind frame kept) image c
+  in-slot = made kind frame kept image c laid below
 
   still-laid : Laid after
-  still-laid = same-laid after image (made .header) laid
+  still-laid = same-laid after image (in-slot .header) laid
 
   pub own-after : counterIn after c ≡ counterAfter kind frame kept (counterIn image c)
   own-after =
-      counter-read after c still-laid (rw (made .header .counters) below) ∙ ap readCounter (made .own)
+      counter-read after c still-laid (rw (in-slot .header .counters) below) ∙ ap readCounter (in-slot .own)
       ∙ after-stores (λ i. getD image (slotAt image c + i) 0) frame kept kind
       ∙ ap (counterAfter kind frame kept) (sym (counter-read image c laid below))
 
   pub other-after : (k : ℕ) → k < count image → (k ≡ c → ⊥) → counterIn after k ≡ counterIn image k
   other-after k inside apart =
-      counter-read after k still-laid (rw (made .header .counters) inside) ∙ ap readCounter (made .other k apart)
+      counter-read after k still-laid (rw (in-slot .header .counters) inside) ∙ ap readCounter (in-slot .other k apart)
       ∙ sym (counter-read image k laid inside)
 
 -- what a frame run whole leaves alone

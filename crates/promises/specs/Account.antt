@@ -10,13 +10,12 @@ use Rattle.frames.specs.declared.Class.{Class}
 use Rattle.frames.specs.declared.Class.the-variants.{Empty, EnableReset, Reset, Read, Command, Unnamed}
 use Rattle.frames.specs.Classes.{classOf}
 use Rattle.checks.specs.Layout.{counterOf}
-use Rattle.plan.specs.Stores.{counterStores}
 use Rattle.state.specs.Parts.{noJob, powerOn}
+use Rattle.plan.specs.Stores.{counterStores}
 use Rattle.plan.specs.Storing.{allStored}
 use Rattle.device.specs.Work.{Device}
-use Rattle.device.specs.Calls.{device}
+use Rattle.device.specs.Calls.{device, Call, PowerUp, Frame, Work, called}
 use Rattle.rules.specs.Whole.{Outcome, outcome, whole}
-use Rattle.promises.specs.Orders.{Call, PowerUp, Frame, Work, called}
 
 -- the device itself, what it would be, and the command frame that found it idle last
 pub record Account : Type 0 where
@@ -82,7 +81,7 @@ framed Unnamed bytes after a = goneBy after a
 -- one call more
 abbrev pub accounted : Call → Account → Account
 accounted PowerUp a = cut (called PowerUp (a .device)) a
-accounted (Frame bytes) a = framed (classOf bytes) bytes (called (Frame bytes) (a .device)) a
+accounted (Frame bytes output) a = framed (classOf bytes) bytes (called (Frame bytes output) (a .device)) a
 accounted (Work quota) a =
     pick (isBusy (a .device)) (worked (called (Work quota) (a .device)) (a .frame) a) (goneBy (called (Work quota) (a .device)) a)
 

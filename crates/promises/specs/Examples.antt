@@ -10,15 +10,15 @@ use Rattle.image.specs.Header.{count}
 use Rattle.image.specs.declared.Slot.{Slot}
 use Rattle.image.specs.Slot.{slotOf, unset, isSet, isBad}
 use Rattle.image.specs.Refusal.{refusal}
-use Rattle.checks.specs.Layout.{typeOf, counterOf, reservedOf, frameLength}
 use Rattle.jobs.specs.declared.Command.{Command}
 use Rattle.jobs.specs.declared.Command.the-variants.{WriteRootKey, IncrementCounter}
-use Rattle.decision.specs.Signature.{signatureHolds}
+use Rattle.checks.specs.Layout.{typeOf, counterOf, reservedOf, frameLength}
 use Rattle.state.specs.Parts.{noKey, sessionKey}
+use Rattle.decision.specs.Signature.{signatureHolds}
 use Rattle.arrival.specs.Arrival.{frameKept, isTemporary}
 use Rattle.device.specs.Work.{Device}
+use Rattle.device.specs.Calls.{Call, PowerUp, Frame, Work}
 use Rattle.rules.specs.Whole.{signature}
-use Rattle.promises.specs.Orders.{Call, PowerUp, Frame, Work}
 use Rattle.promises.specs.Account.{isBusy}
 
 -- the rows; P9 and P10 make two claims each
@@ -31,10 +31,10 @@ pub data Example : Type 0 where
   P6 : Example
   P7 : Example
   P8 : Example
-  P9-after-14 : Example
-  P9-after-15 : Example
-  P10-cut-after-14 : Example
-  P10-cut-after-13 : Example
+  P9-before-the-end : Example
+  P9-at-the-end : Example
+  P10-cut-before-the-end : Example
+  P10-cut-before-the-counter : Example
   P11 : Example
   P12 : Example
   P13 : Example
@@ -87,10 +87,10 @@ Given P7 d frame =
     InOrder 3 frame × (isBad (slotFor d frame) ≡ false) × (isSet (slotFor d frame .counter) ≡ true)
     × (sessionKey (d .state) (counterOf frame) .there ≡ false)
 Given P8 d frame = InOrder 0 frame × (isBad (slotFor d frame) ≡ false) × (isSet (slotFor d frame .root) ≡ true)
-Given P9-after-14 d frame = Pairs d frame
-Given P9-after-15 d frame = Pairs d frame
-Given P10-cut-after-14 d frame = Pairs d frame
-Given P10-cut-after-13 d frame = Pairs d frame
+Given P9-before-the-end d frame = Pairs d frame
+Given P9-at-the-end d frame = Pairs d frame
+Given P10-cut-before-the-end d frame = Pairs d frame
+Given P10-cut-before-the-counter d frame = Pairs d frame
 Given P11 d frame =
     InOrder 0 frame × (slotFor d frame .root ≡ unset) × (slotFor d frame .counter ≡ 0) × (slotFor d frame .value ≡ 7)
     × (isTemporary (frameKept frame) ≡ true) × Good WriteRootKey d frame
@@ -101,24 +101,24 @@ Given P12 d frame =
 Given P13 d frame = InOrder 3 frame × (slotFor d frame .root ≡ 5)
 Given P14 d frame = frame ≡ []
 
--- what is called
-abbrev pub script : Example → List ℕ → List Call
-script P1 frame = Frame frame ∷ []
-script P2 frame = Frame frame ∷ []
-script P3 frame = Frame frame ∷ []
-script P4 frame = Frame frame ∷ []
-script P5 frame = Frame frame ∷ []
-script P6 frame = Frame frame ∷ []
-script P7 frame = Frame frame ∷ []
-script P8 frame = Frame frame ∷ []
-script P9-after-14 frame = Frame frame ∷ Work 14 ∷ []
-script P9-after-15 frame = Frame frame ∷ Work 15 ∷ []
-script P10-cut-after-14 frame = Frame frame ∷ Work 14 ∷ PowerUp ∷ []
-script P10-cut-after-13 frame = Frame frame ∷ Work 13 ∷ PowerUp ∷ []
-script P11 frame = Frame frame ∷ Work 4 ∷ []
-script P12 frame = Frame frame ∷ Work 4 ∷ []
-script P13 frame = Frame frame ∷ []
-script P14 frame = Frame (0x66 ∷ []) ∷ Frame (0x96 ∷ 0x00 ∷ []) ∷ Frame (0x99 ∷ []) ∷ []
+-- what is called, with an output buffer
+abbrev pub script : Example → List ℕ → List ℕ → List Call
+script P1 frame output = Frame frame output ∷ []
+script P2 frame output = Frame frame output ∷ []
+script P3 frame output = Frame frame output ∷ []
+script P4 frame output = Frame frame output ∷ []
+script P5 frame output = Frame frame output ∷ []
+script P6 frame output = Frame frame output ∷ []
+script P7 frame output = Frame frame output ∷ []
+script P8 frame output = Frame frame output ∷ []
+script P9-before-the-end frame output = Frame frame output ∷ Work 14 ∷ []
+script P9-at-the-end frame output = Frame frame output ∷ Work 15 ∷ []
+script P10-cut-before-the-end frame output = Frame frame output ∷ Work 14 ∷ PowerUp ∷ []
+script P10-cut-before-the-counter frame output = Frame frame output ∷ Work 13 ∷ PowerUp ∷ []
+script P11 frame output = Frame frame output ∷ Work 4 ∷ []
+script P12 frame output = Frame frame output ∷ Work 4 ∷ []
+script P13 frame output = Frame frame output ∷ []
+script P14 frame output = Frame (0x66 ∷ []) output ∷ Frame (0x96 ∷ 0x00 ∷ []) output ∷ Frame (0x99 ∷ []) output ∷ []
 
 -- idle, with this status
 abbrev pub Ends : ℕ → Device → Type 0
@@ -134,11 +134,11 @@ Seen P5 d frame after = Ends 0x04 after
 Seen P6 d frame after = Ends 0x02 after
 Seen P7 d frame after = Ends 0x08 after
 Seen P8 d frame after = Ends 0x02 after
-Seen P9-after-14 d frame after = (isBusy after ≡ true) × (after .state .status ≡ 0x01)
-Seen P9-after-15 d frame after = Ends 0x80 after
-Seen P10-cut-after-14 d frame after =
+Seen P9-before-the-end d frame after = (isBusy after ≡ true) × (after .state .status ≡ 0x01)
+Seen P9-at-the-end d frame after = Ends 0x80 after
+Seen P10-cut-before-the-end d frame after =
     (slotFor after frame .counter ≡ 0) × (slotFor after frame .value ≡ 0) × (slotFor after frame .root ≡ unset)
-Seen P10-cut-after-13 d frame after = (slotFor after frame .counter ≡ unset) × (slotFor after frame .root ≡ unset)
+Seen P10-cut-before-the-counter d frame after = (slotFor after frame .counter ≡ unset) × (slotFor after frame .root ≡ unset)
 Seen P11 d frame after = Ends 0x80 after × (slotFor after frame .value ≡ 7)
 Seen P12 d frame after = Ends 0x20 after
 Seen P13 d frame after = Ends 0x20 after

@@ -8,9 +8,10 @@ use lib.ListN.{length}
 use Rattle.words.specs.Choice.{pick}
 use Rattle.frames.specs.declared.Class.the-variants.{Command}
 use Rattle.frames.specs.Classes.{classOf}
+use Rattle.jobs.specs.Jobs.{longest}
 use Rattle.checks.specs.Layout.{counterOf}
+use Rattle.device.specs.Calls.{Call, Frame, Work}
 use Rattle.rules.specs.Whole.{Outcome, whole}
-use Rattle.promises.specs.Orders.{Call, Frame, Work}
 use Rattle.promises.specs.Account.{idle}
 
 -- a frame belongs to the counter that it names; a two-byte one belongs to no counter
@@ -27,10 +28,10 @@ unfoldable pub allWhole : List (List ℕ) → Outcome → Outcome
 allWhole [] o = o
 allWhole (frame ∷ more) o = allWhole more (whole (idle o) frame)
 
--- the calls that run frames whole: each frame, and the steps of its job
-unfoldable pub eachRun : List (List ℕ) → List Call
-eachRun [] = []
-eachRun (frame ∷ more) = Frame frame ∷ Work 15 ∷ eachRun more
+-- the calls that run frames whole: each frame, with an output buffer, and the steps of its job
+unfoldable pub eachRun : List ℕ → List (List ℕ) → List Call
+eachRun output [] = []
+eachRun output (frame ∷ more) = Frame frame output ∷ Work longest ∷ eachRun output more
 
 -- command frames: 9Bh, two bytes or more
 unfoldable pub Commands : List (List ℕ) → Type 0

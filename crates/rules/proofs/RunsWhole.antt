@@ -1,5 +1,5 @@
 -- Running a job to its end gives the whole-frame result. Assumes nothing.
-use Prim.Native.Nat.{ℕ, _+_, _≤_}
+use Prim.Native.Nat.{ℕ, _+_, _-_, _≤_}
 use mathlib.Core.Path.{_≡_, refl, ap, _∙_}
 use mathlib.Core.Bool.{Bool, true, false}
 use mathlib.Core.List.{List, _++_}
@@ -12,24 +12,26 @@ use Rattle.words.proofs.Table.{length-table}
 use Rattle.words.proofs.Choice.{either}
 use Rattle.words.specs.Table.{field}
 use Rattle.hmac.specs.Hmac.{HMAC}
+use Rattle.hmac.proofs.FourBlocks.{fourth, fourth-hmac}
 use Rattle.hmac.proofs.Lengths.{length-HMAC}
 use Rattle.image.specs.Slot.{rootKey}
-use Rattle.checks.specs.Layout.{counterOf}
-use Rattle.jobs.specs.Jobs.{commandOf}
+use Rattle.jobs.specs.Jobs.{lengthOf, commandOf, longest}
+use Rattle.jobs.proofs.Longest.{at-most}
 use Rattle.jobs.specs.declared.Kind.{Kind}
 use Rattle.jobs.specs.declared.Kind.the-variants.{RootKeyAndCounter, RootKey, CounterOnly, Nothing, SessionKey, Increment, Request}
-use Rattle.decision.specs.Decision.{decision}
+use Rattle.checks.specs.Layout.{counterOf}
 use Rattle.state.specs.declared.State.{State}
-use Rattle.state.specs.Refusal.{isRunning}
+use Rattle.decision.specs.Decision.{decision}
 use Rattle.plan.specs.Storing.{allStored}
 use Rattle.steps.specs.Deciding.{withKept}
 use Rattle.arrival.specs.Arrival.{frameKept, statusOnArrival, jobOf, taken, arrived}
+use Rattle.arrival.proofs.Arrives.{arrived-fails, arrived-starts}
 use Rattle.device.specs.Work.{Device, run}
 use Rattle.device.specs.Calls.{device}
+use Rattle.progress.proofs.Runs.{run-not-taken, run-add}
+use Rattle.progress.proofs.Hashing.{busy, begun, fourthAt, secondAt, afterFour, four-steps, four-more-steps}
 use Rattle.rules.specs.Whole.{outcome, valueIn, keyThere, newKey, signature, lastChecks, failedWith, carriedOut, kindIn, allChecks, whole}
-use Rattle.rules.proofs.Runs.{run-idle, run-add}
-use Rattle.rules.proofs.Hashing.{busy, fourth, fourth-hmac, begun, fourthAt, secondAt, afterFour, four-steps, four-more-steps}
-use Rattle.rules.proofs.Storing.{stored-root-and-counter, stored-root, stored-counter, stored-nothing, stored-increment, stored-request, stored-session}
+use Rattle.rules.proofs.Storing.{stored-all, stored-request, stored-session}
 use Rattle.rules.proofs.Ended.{ended}
 
 -- a message of a frame's field fits one block
@@ -64,7 +66,7 @@ module _ (d : Device) (frame : List ℕ) (formed : length (keyThere d frame) ≡
   -- the whole-frame result of a kind of job
   abbrev Whole : Kind → Type 0
   Whole kind =
-      outcome (run 15 (device (d .image) (start kind))) ≡
+      outcome (run longest (device (d .image) (start kind))) ≡
       pick (eqb (lastChecks (commandOf kind) d frame) 0) (carriedOut kind d frame) (failedWith (lastChecks (commandOf kind) d frame) d)
 
   root-digest : bytesOfAll (digest Nothing) ≡ signature (commandOf Nothing) d frame
@@ -88,9 +90,17 @@ module _ (d : Device) (frame : List ℕ) (formed : length (keyThere d frame) ≡
   unfolding lastChecks
   same-decision kind digest e = ap (λ (g : List ℕ). decision (commandOf kind) sent g (valueIn d frame)) e
 
-  -- the job's steps: four, then eleven
-  fifteen : (kind : Kind) → run 15 (device (d .image) (start kind)) ≡ run 11 (run 4 (device (d .image) (start kind)))
-  fifteen kind = run-add 11 4 (device (d .image) (start kind))
+  -- the steps of the longest job: four, then the others
+  abbrev later : ℕ
+  later = longest - 4
+
+  all-steps : (kind : Kind) → run longest (device (d .image) (start kind)) ≡ run later (run 4 (device (d .image) (start kind)))
+  all-steps kind =
+      let both : longest ≡ later + 4 = omega (arith, at-most Nothing) in
+      ap (λ (n : ℕ). run n (device (d .image) (start kind))) both ∙ run-add later 4 (device (d .image) (start kind))
+
+  enough : (kind : Kind) → lengthOf kind ≤ later + 4
+  enough kind = omega (arith, at-most kind, at-most Nothing)
 
   four :
       (kind : Kind) →
@@ -102,33 +112,33 @@ module _ (d : Device) (frame : List ℕ) (formed : length (keyThere d frame) ≡
   whole-nothing : Whole Nothing
   unfolding carriedOut failedWith withKept
   whole-nothing =
-      rw (fifteen Nothing, four Nothing)
-      (ended 11 (d .image) _ (valueIn d frame) _ _ (same-decision Nothing _ root-digest) (λ e. stored-nothing _ _ _ _ _ _ _ _ _))
+      rw (all-steps Nothing, four Nothing)
+      (ended later (d .image) _ (valueIn d frame) _ _ (same-decision Nothing _ root-digest) (λ e. stored-all _ _ _ _ _ _ _ _ _ _ Nothing refl (λ s. refl) (enough Nothing)))
 
   whole-counter : Whole CounterOnly
   unfolding carriedOut failedWith withKept
   whole-counter =
-      rw (fifteen CounterOnly, four CounterOnly)
-      (ended 11 (d .image) _ (valueIn d frame) _ _ (same-decision CounterOnly _ root-digest) (λ e. stored-counter _ _ _ _ _ _ _ _ _))
+      rw (all-steps CounterOnly, four CounterOnly)
+      (ended later (d .image) _ (valueIn d frame) _ _ (same-decision CounterOnly _ root-digest) (λ e. stored-all _ _ _ _ _ _ _ _ _ _ CounterOnly refl (λ s. refl) (enough CounterOnly)))
 
   whole-root : Whole RootKey
   unfolding carriedOut failedWith withKept
   whole-root =
-      rw (fifteen RootKey, four RootKey)
-      (ended 11 (d .image) _ (valueIn d frame) _ _ (same-decision RootKey _ root-digest) (λ e. stored-root _ _ _ _ _ _ _ _ _))
+      rw (all-steps RootKey, four RootKey)
+      (ended later (d .image) _ (valueIn d frame) _ _ (same-decision RootKey _ root-digest) (λ e. stored-all _ _ _ _ _ _ _ _ _ _ RootKey refl (λ s. refl) (enough RootKey)))
 
   whole-root-and-counter : Whole RootKeyAndCounter
   unfolding carriedOut failedWith withKept
   whole-root-and-counter =
-      rw (fifteen RootKeyAndCounter, four RootKeyAndCounter)
-      (ended 11 (d .image) _ (valueIn d frame) _ _ (same-decision RootKeyAndCounter _ root-digest)
-      (λ e. stored-root-and-counter _ _ _ _ _ _ _ _ _))
+      rw (all-steps RootKeyAndCounter, four RootKeyAndCounter)
+      (ended later (d .image) _ (valueIn d frame) _ _ (same-decision RootKeyAndCounter _ root-digest)
+      (λ e. stored-all _ _ _ _ _ _ _ _ _ _ RootKeyAndCounter refl (λ s. refl) (enough RootKeyAndCounter)))
 
   whole-increment : Whole Increment
   unfolding carriedOut failedWith withKept
   whole-increment =
-      rw (fifteen Increment, four Increment)
-      (ended 11 (d .image) _ (valueIn d frame) _ _ (same-decision Increment _ increment-digest) (λ e. stored-increment _ _ _ _ _ _ _ _ _))
+      rw (all-steps Increment, four Increment)
+      (ended later (d .image) _ (valueIn d frame) _ _ (same-decision Increment _ increment-digest) (λ e. stored-all _ _ _ _ _ _ _ _ _ _ Increment refl (λ s. refl) (enough Increment)))
 
   reply-signed :
       (chain inner : List ℕ) →
@@ -137,32 +147,34 @@ module _ (d : Device) (frame : List ℕ) (formed : length (keyThere d frame) ≡
   reply-signed chain inner = fourth-hmac (keyThere d frame) _ chain inner formed (length-signed sent (valueIn d frame))
 
   whole-request : Whole Request
-  unfolding carriedOut failedWith withKept
+  unfolding carriedOut failedWith withKept allStored
   whole-request =
-      rw (fifteen Request, four Request)
-      (ended 11 (d .image) _ (valueIn d frame) _ _ (same-decision Request _ request-digest)
-      (λ e. rw (← reply-signed (digest Request) (inner Request)) (stored-request _ _ _ _ _ _ _ _ _)))
+      rw (all-steps Request, four Request)
+      (ended later (d .image) _ (valueIn d frame) _ _ (same-decision Request _ request-digest)
+      (λ e. rw (← reply-signed (digest Request) (inner Request)) (stored-request _ _ _ _ _ _ _ _ _ _ (enough Request))))
 
   -- a session key job from its fifth step on, with the key that it made
   session-ended :
       (chain inner made : List ℕ) → length made ≡ 32 → made ≡ newKey d frame →
-      outcome (run 11 (device (d .image) (busy SessionKey (d .state .keys) (counterOf frame) sent root 4 chain made inner 0))) ≡
+      outcome (run later (device (d .image) (busy SessionKey (d .state .keys) (counterOf frame) sent root 4 chain made inner 0))) ≡
       pick (eqb (lastChecks (commandOf SessionKey) d frame) 0) (carriedOut SessionKey d frame)
       (failedWith (lastChecks (commandOf SessionKey) d frame) d)
   unfolding carriedOut failedWith withKept allStored
   session-ended chain inner made size e =
       let signed = fourth-hmac made (field 0 8 sent) chain inner size (short 0 8 sent (omega arith)) in
+      let more : later ≡ (later - 4) + 4 = omega (arith, enough SessionKey) in
       rw (
-        run-add 7 4 (device (d .image) (busy SessionKey (d .state .keys) (counterOf frame) sent root 4 chain made inner 0)),
+        more,
+        run-add (later - 4) 4 (device (d .image) (busy SessionKey (d .state .keys) (counterOf frame) sent root 4 chain made inner 0)),
         four-more-steps (d .image) (d .state .keys) (counterOf frame) sent root chain made inner 0,
       )
-      (ended 7 (d .image) _ (valueIn d frame) _ _
+      (ended (later - 4) (d .image) _ (valueIn d frame) _ _
       (same-decision SessionKey _ (signed ∙ ap (λ (key : List ℕ). HMAC key (field 0 8 sent)) e))
-      (λ _. rw (← e) (stored-session _ _ _ _ _ _ _ _ _)))
+      (λ _. rw (← e) (stored-session _ _ _ _ _ _ _ _ _ _)))
 
   whole-session : Whole SessionKey
   whole-session =
-      rw (fifteen SessionKey, four SessionKey)
+      rw (all-steps SessionKey, four SessionKey)
       (session-ended (digest SessionKey) (inner SessionKey) (bytesOfAll (digest SessionKey)) (ap length key-made ∙ length-HMAC _ _) key-made)
 
   whole-kind : (kind : Kind) → Whole kind
@@ -174,38 +186,19 @@ module _ (d : Device) (frame : List ℕ) (formed : length (keyThere d frame) ≡
   whole-kind Increment = whole-increment
   whole-kind Request = whole-request
 
--- a frame that fails on arrival starts no job
-pub not-taken :
-    (d : Device) (frame : List ℕ) (status : ℕ) → d .state .job .there ≡ false →
-    run 15 (device (d .image) (taken (d .state) status (d .state .job))) ≡ device (d .image) (taken (d .state) status (d .state .job))
-unfolding isRunning taken pick
-not-taken d frame status idle = run-idle 15 _ (rw idle)
-
-pub arrived-fails :
-    (image : List ℕ) (s : State) (frame : List ℕ) → eqb (statusOnArrival image s frame) 0 ≡ false →
-    arrived image s frame ≡ taken s (statusOnArrival image s frame) (s .job)
-unfolding arrived pick
-arrived-fails image s frame e = rw e
-
-pub arrived-starts :
-    (image : List ℕ) (s : State) (frame : List ℕ) → eqb (statusOnArrival image s frame) 0 ≡ true →
-    arrived image s frame ≡ taken s 0x01 (jobOf image frame)
-unfolding arrived pick
-arrived-starts image s frame e = rw e
-
 runs-by :
     (d : Device) (frame : List ℕ) → d .state .job .there ≡ false → length (keyThere d frame) ≡ 32 →
     (b : Bool) → eqb (statusOnArrival (d .image) (d .state) frame) 0 ≡ b →
-    outcome (run 15 (device (d .image) (arrived (d .image) (d .state) frame))) ≡ whole d frame
+    outcome (run longest (device (d .image) (arrived (d .image) (d .state) frame))) ≡ whole d frame
 unfolding whole allChecks taken jobOf pick failedWith
 runs-by d frame idle formed true e =
     rw (arrived-starts (d .image) (d .state) frame e, e) (whole-kind d frame formed (kindIn d frame))
 runs-by d frame idle formed false e =
-    rw (arrived-fails (d .image) (d .state) frame e, not-taken d frame (statusOnArrival (d .image) (d .state) frame) idle, e, e)
+    rw (arrived-fails (d .image) (d .state) frame e, run-not-taken longest d (statusOnArrival (d .image) (d .state) frame) idle, e, e)
 
--- A command frame that finds the device idle, and the fifteen steps after it at most, come to what the page says. A session key
+-- A command frame that finds the device idle, and the steps after it, at most those of the longest job, come to what the page says. A session key
 -- has 32 bytes in every state of the type.
 pub runs-whole :
     (d : Device) (frame : List ℕ) → d .state .job .there ≡ false → length (keyThere d frame) ≡ 32 →
-    outcome (run 15 (device (d .image) (arrived (d .image) (d .state) frame))) ≡ whole d frame
+    outcome (run longest (device (d .image) (arrived (d .image) (d .state) frame))) ≡ whole d frame
 runs-whole d frame idle formed = runs-by d frame idle formed _ refl

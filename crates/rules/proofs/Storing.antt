@@ -1,88 +1,92 @@
--- The steps after the check: the stores of the plan, or the reply's four blocks. Assumes nothing.
-use Prim.Native.Nat.{ℕ}
-use mathlib.Core.Path.{_≡_, refl}
-use mathlib.Core.Bool.{true}
+-- The steps after the check come to what the page says: the stores of the plan, all of them by one law, or the reply's four blocks, or
+-- nothing more. Past the end of the job further steps change nothing. Assumes nothing.
+use Prim.Native.Nat.{ℕ, _+_, _-_, _≤_}
+use mathlib.Core.Path.{_≡_, refl, ap, _∙_}
+use mathlib.Core.Bool.{true, false}
 use mathlib.Core.List.{List, _++_}
+use native.Mathlib.Omega.{arith}
 use lib.ListN.{getD, set}
 use Rattle.words.specs.Choice.{pick}
 use Rattle.words.specs.Words.{bytesOf, bytesOfAll}
 use Rattle.words.specs.Table.{field}
-use Rattle.frames.specs.declared.Reply.{Reply}
-use Rattle.jobs.specs.Jobs.{commandOf}
-use Rattle.jobs.specs.declared.Command.{Command}
-use Rattle.jobs.specs.declared.Command.the-variants.{WriteRootKey, UpdateSessionKey, IncrementCounter, RequestCounter}
+use Rattle.hmac.proofs.FourBlocks.{second, fourth}
+use Rattle.jobs.specs.Jobs.{lengthOf, commandOf, hashSteps}
 use Rattle.jobs.specs.declared.Kind.{Kind}
-use Rattle.jobs.specs.declared.Kind.the-variants.{RootKeyAndCounter, RootKey, CounterOnly, Nothing, SessionKey, Increment, Request}
-use Rattle.plan.specs.Stores.{keyStores, stores, storeOf}
+use Rattle.jobs.specs.declared.Kind.the-variants.{SessionKey, Request}
 use Rattle.state.specs.declared.Key.{Key}
-use Rattle.state.specs.Parts.{noKey, noReply}
+use Rattle.state.specs.declared.State.{State}
+use Rattle.state.specs.Parts.{noKey, noReply, posted}
 use Rattle.state.specs.Refusal.{isRunning}
+use Rattle.plan.specs.Stores.{stores}
 use Rattle.plan.specs.Storing.{allStored}
+use Rattle.plan.proofs.Plans.{plan-length}
 use Rattle.signing.specs.Signing.{quarterOf}
 use Rattle.signing.specs.Hashed.{blockDone, innerAfter, withBlock, hashed}
-use Rattle.steps.specs.Ending.{withKey, withReply, withStep, advanced}
+use Rattle.steps.specs.Ending.{withKey, withReply, withStep, finishedBy, advanced}
 use Rattle.steps.specs.Deciding.{hashStep}
 use Rattle.steps.specs.Step.{stepState, stepImage}
-use Rattle.device.specs.Work.{stepped, run}
+use Rattle.device.specs.Work.{Device, stepped, run}
 use Rattle.device.specs.Calls.{device}
-use Rattle.rules.specs.Whole.{outcome}
-use Rattle.rules.proofs.Hashing.{busy, second, fourth}
+use Rattle.progress.proofs.Runs.{run-idle, run-add}
+use Rattle.progress.proofs.Hashing.{busy}
+use Rattle.progress.proofs.Stores.{all-made}
+use Rattle.rules.specs.Whole.{Outcome, outcome}
 
-module _ (image : List ℕ) (keys : List Key) (counter : ℕ) (frame root chain made inner : List ℕ) (kept : ℕ) where
-  -- the reply of a request that has passed its check
-  abbrev pub replyMade : Reply
-  replyMade =
+module _ (image : List ℕ) (keys : List Key) (counter : ℕ) (frame root chain made inner : List ℕ) (kept : ℕ) (n : ℕ) where
+  abbrev checked : Kind → ℕ → Device
+  checked kind step = device image (advanced (busy kind keys counter frame root step chain made inner kept))
+
+  -- a command that ends with its stores: n steps, if the job has no more after the four of its check
+  pub stored-all :
+      (kind : Kind) → hashSteps (commandOf kind) ≡ 4 → ((s : State) → finishedBy (commandOf kind) s ≡ posted s 0x80) →
+      lengthOf kind ≤ n + 4 →
+      outcome (run n (checked kind 3)) ≡
+      record { status = 0x80; keys = keys; reply = noReply; image = allStored (stores kind frame kept) image counter }
+  unfolding withStep
+  stored-all kind blocks ends enough =
+      ap outcome
+      (all-made (busy kind keys counter frame root 3 chain made inner kept) 3 refl blocks image n
+      (omega (arith, enough, blocks, plan-length kind frame kept)))
+      ∙ ap (λ (s : State). outcome (device (allStored (stores kind frame kept) image counter) s)) (ends _)
+
+  -- a request is answered: four blocks more, those of its reply
+  abbrev answered : Outcome
+  answered =
       record {
-        there = true;
-        bytes =
-            field 4 12 frame ++ bytesOf kept
-            ++ bytesOfAll (fourth (getD keys counter noKey .bytes) (field 4 12 frame ++ bytesOf kept) chain inner);
+        status = 0x80;
+        keys = keys;
+        reply =
+            record {
+              there = true;
+              bytes =
+                  field 4 12 frame ++ bytesOf kept
+                  ++ bytesOfAll (fourth (getD keys counter noKey .bytes) (field 4 12 frame ++ bytesOf kept) chain inner);
+            };
+        image = image;
       }
 
-  abbrev pub replyOf : Command → Reply
-  replyOf WriteRootKey = noReply
-  replyOf UpdateSessionKey = noReply
-  replyOf IncrementCounter = noReply
-  replyOf RequestCounter = replyMade
+  request-done : outcome (run 4 (checked Request 3)) ≡ answered
+  unfolding run stepped stepState stepImage isRunning pick hashStep hashed withBlock blockDone quarterOf innerAfter advanced withStep withReply second fourth
+  request-done = refl
 
-  -- the steps after the check of a job that is no session key's
-  abbrev pub Stored : Kind → Type 0
-  Stored kind =
-      outcome (run 11 (device image (advanced (busy kind keys counter frame root 3 chain made inner kept)))) ≡
-      record { status = 0x80; keys = keys; reply = replyOf (commandOf kind); image = allStored (stores kind frame kept) image counter }
+  request-idle : isRunning (run 4 (checked Request 3) .state) ≡ false
+  unfolding run stepped stepState stepImage isRunning pick hashStep hashed withBlock blockDone quarterOf innerAfter advanced withStep withReply second fourth
+  request-idle = refl
 
-  pub stored-root-and-counter : Stored RootKeyAndCounter
-  unfolding run stepped stepState stepImage isRunning pick advanced withStep storeOf keyStores allStored
-  stored-root-and-counter = refl
-
-  pub stored-root : Stored RootKey
-  unfolding run stepped stepState stepImage isRunning pick advanced withStep storeOf keyStores allStored
-  stored-root = refl
-
-  pub stored-counter : Stored CounterOnly
-  unfolding run stepped stepState stepImage isRunning pick advanced withStep storeOf keyStores allStored
-  stored-counter = refl
-
-  pub stored-nothing : Stored Nothing
-  unfolding run stepped stepState stepImage isRunning pick advanced withStep storeOf keyStores allStored
-  stored-nothing = refl
-
-  pub stored-increment : Stored Increment
-  unfolding run stepped stepState stepImage isRunning pick advanced withStep storeOf keyStores allStored
-  stored-increment = refl
-
-  pub stored-request : Stored Request
-  unfolding run stepped stepState stepImage isRunning pick hashStep hashed withBlock blockDone quarterOf innerAfter advanced withStep withReply second fourth allStored
-  stored-request = refl
+  pub stored-request : lengthOf Request ≤ n + 4 → outcome (run n (checked Request 3)) ≡ answered
+  stored-request enough =
+      let more : n ≡ (n - 4) + 4 = omega (arith, enough) in
+      ap (λ (k : ℕ). outcome (run k (checked Request 3))) more
+      ∙ ap outcome (run-add (n - 4) 4 (checked Request 3) ∙ run-idle (n - 4) (run 4 (checked Request 3)) request-idle) ∙ request-done
 
   -- a session key job ends with its check
   pub stored-session :
-      outcome (run 7 (device image (advanced (busy SessionKey keys counter frame root 7 chain made inner kept)))) ≡
+      outcome (run n (checked SessionKey 7)) ≡
       record {
         status = 0x80;
         keys = set keys counter (record { there = true; bytes = made });
         reply = noReply;
         image = image;
       }
-  unfolding run stepped stepState stepImage isRunning pick advanced withKey
-  stored-session = refl
+  unfolding isRunning pick advanced withKey
+  stored-session = ap outcome (run-idle n (checked SessionKey 7) refl)

@@ -11,15 +11,15 @@ use Rattle.words.proofs.Choice.{never, either}
 use Rattle.image.specs.Header.{count}
 use Rattle.image.specs.declared.Slot.{Slot}
 use Rattle.image.specs.Slot.{slotOf, isSet, isBad}
-use Rattle.checks.specs.Layout.{typeOf, counterOf}
-use Rattle.checks.specs.Checks.{shapeStatus, counterStatus, stateStatus, slotStatus, arrivalStatus}
 use Rattle.jobs.specs.Jobs.{rootKind, kindOf}
 use Rattle.jobs.specs.declared.Kind.{Kind}
 use Rattle.jobs.specs.declared.Kind.the-variants.{RootKeyAndCounter, RootKey, CounterOnly, Nothing, SessionKey, Increment, Request}
+use Rattle.checks.specs.Layout.{typeOf, counterOf}
+use Rattle.checks.specs.Checks.{shapeStatus, counterStatus, stateStatus, slotStatus, arrivalStatus}
 use Rattle.state.specs.Parts.{sessionKey}
 use Rattle.arrival.specs.Arrival.{frameKept, isTemporary, statusOnArrival}
 use Rattle.device.specs.Work.{Device}
 use Rattle.rules.specs.Whole.{Outcome, kindIn, allChecks, failedWith, carriedOut, whole}
 
 -- both checks, where neither fails
 or-zero-by : (a b : ℕ) (t : Bool) → eqb a 0 ≡ t → pick t b a ≡ 0 → (a ≡ 0) × (b ≡ 0)

@@ -1,16 +1,21 @@
--- It ends: after 15 steps no job runs, and a device in which none runs stays as it is. Assumes nothing.
-use Prim.Native.Nat.{ℕ, zero, suc, _+_, _≤_}
+-- It ends: after the steps of the longest job none runs, since each step leaves less of a job; so a work call does its quota of steps,
+-- or comes to the end of the job. Assumes nothing.
+use Prim.Native.Nat.{ℕ, zero, suc, _+_, _-_, _≤_}
 use mathlib.Core.Path.{_≡_, refl, ap, sym, _∙_}
 use mathlib.Core.Bool.{Bool, true, false}
 use native.Mathlib.Omega.{arith}
+use borrow.Author.Tests.{ltb-true, ltb-false}
+use lib.Dec.{ltb}
 use Rattle.words.specs.Choice.{pick}
 use Rattle.words.proofs.Choice.{never, either}
+use Rattle.jobs.specs.Jobs.{longest}
+use Rattle.jobs.proofs.Longest.{at-most}
 use Rattle.state.specs.Refusal.{isRunning}
-use Rattle.state.proofs.Running.{at-most-15, step-left}
+use Rattle.state.proofs.Running.{step-left}
 use Rattle.steps.specs.Step.{stepState}
 use Rattle.device.specs.Work.{Device, stepped, run, within, stepsLeft, stepsDone}
 use Rattle.device.proofs.Ends.{rest, step-less, bound-runs}
-use Rattle.rules.proofs.Runs.{stepped-idle, run-idle, run-add}
+use Rattle.progress.proofs.Runs.{stepped-idle, run-idle, run-add}
 
 -- where a job runs after a step, one ran before it
 ran-by : (d : Device) → isRunning (stepped d .state) ≡ true → (b : Bool) → isRunning (d .state) ≡ b → isRunning (d .state) ≡ true
@@ -21,20 +26,20 @@ ran : (d : Device) → isRunning (stepped d .state) ≡ true → isRunning (d .s
 ran d e = ran-by d e _ refl
 
 -- the steps left of a job that still runs after n steps
-left-after : (n : ℕ) (d : Device) → isRunning (run n d .state) ≡ true → rest (run n d .state) + n ≤ 15
+left-after : (n : ℕ) (d : Device) → isRunning (run n d .state) ≡ true → rest (run n d .state) + n ≤ longest
 unfolding run stepped
-left-after zero d e = omega (arith, at-most-15 (d .state .job .kind))
+left-after zero d e = omega (arith, at-most (d .state .job .kind))
 left-after (suc n) d e =
     let before = ran (run n d) e in
     let less = step-less (run n d .image) (run n d .state) before in
     omega (arith, left-after n d before, less, bound-runs (stepState (run n d .image) (run n d .state)) e)
 
-idle-by : (d : Device) (b : Bool) → isRunning (run 15 d .state) ≡ b → isRunning (run 15 d .state) ≡ false
-idle-by d true e = absurd (omega (arith, left-after 15 d e, step-left (run 15 d .state) e))
+idle-by : (d : Device) (b : Bool) → isRunning (run longest d .state) ≡ b → isRunning (run longest d .state) ≡ false
+idle-by d true e = absurd (omega (arith, left-after longest d e, step-left (run longest d .state) e))
 idle-by d false e = e
 
--- a job is idle again after at most 15 steps
-pub ends : (d : Device) → isRunning (run 15 d .state) ≡ false
+-- no job runs after the steps of the longest
+pub ends : (d : Device) → isRunning (run longest d .state) ≡ false
 ends d = idle-by d _ refl
 
 -- a device that is idle after some steps is the same after as many or more
@@ -42,10 +47,10 @@ idle-after : (m n : ℕ) (d : Device) → isRunning (run n d .state) ≡ false �
 idle-after m n d e = run-add m n d ∙ run-idle m (run n d) e
 
 -- so it is the same whenever it is idle
-pub same-end : (n : ℕ) (d : Device) → isRunning (run n d .state) ≡ false → run n d ≡ run 15 d
+pub same-end : (n : ℕ) (d : Device) → isRunning (run n d .state) ≡ false → run n d ≡ run longest d
 same-end n d e =
-    let e₁ : 15 + n ≡ n + 15 = omega arith in
-    sym (idle-after 15 n d e) ∙ rw e₁ (idle-after n 15 d (ends d))
+    let e₁ : longest + n ≡ n + longest = omega arith in
+    sym (idle-after longest n d e) ∙ rw e₁ (idle-after n longest d (ends d))
 
 -- the steps left lead to the end of the job
 run-first : (n : ℕ) (d : Device) → run (suc n) d ≡ run n (stepped d)
@@ -78,12 +83,31 @@ within-ends (suc n) d e = within-by n d (within-ends n (stepped d)) (isRunning (
 left-ends-by : (d : Device) (b : Bool) → isRunning (run (stepsLeft d) d .state) ≡ b → isRunning (run (stepsLeft d) d .state) ≡ false
 unfolding stepsLeft
 left-ends-by d true e =
-    absurd (never (sym (ends d) ∙ ap (λ (n : ℕ). isRunning (run n d .state)) (sym (within-ends 15 d e)) ∙ e))
+    absurd (never (sym (ends d) ∙ ap (λ (n : ℕ). isRunning (run n d .state)) (sym (within-ends longest d e)) ∙ e))
 left-ends-by d false e = e
 
--- so a work call with a quota of 15 or more leaves no job running
-pub work-ends : (quota : ℕ) (d : Device) → 15 ≤ quota → isRunning (run (stepsDone quota d) d .state) ≡ false
+pub left-ends : (d : Device) → isRunning (run (stepsLeft d) d .state) ≡ false
+left-ends d = left-ends-by d _ refl
+
+-- so a work call with a quota of the longest job or more leaves no job running
+pub work-ends : (quota : ℕ) (d : Device) → longest ≤ quota → isRunning (run (stepsDone quota d) d .state) ≡ false
 unfolding stepsLeft
 work-ends quota d h =
-    let all : stepsDone quota d ≡ stepsLeft d = omega (arith, within-most 15 d) in
-    rw all (left-ends-by d _ refl)
+    let all : stepsDone quota d ≡ stepsLeft d = omega (arith, within-most longest d) in
+    rw all (left-ends d)
+
+-- the steps done come to the quota: past the end of a job, steps change nothing
+quota-by : (n : ℕ) (d : Device) (b : Bool) → ltb n (stepsLeft d) ≡ b → run (stepsDone n d) d ≡ run n d
+quota-by n d true l =
+    let all : stepsDone n d ≡ n = omega (arith, ltb-true n (stepsLeft d) l) in
+    ap (λ (m : ℕ). run m d) all
+quota-by n d false l =
+    let left = stepsLeft d in
+    let least = ltb-false n left l in
+    let done : stepsDone n d ≡ left = omega (arith, least) in
+    let more : n ≡ (n - left) + left = omega (arith, least) in
+    ap (λ (m : ℕ). run m d) done
+    ∙ sym (ap (λ (m : ℕ). run m d) more ∙ run-add (n - left) left d ∙ run-idle (n - left) (run left d) (left-ends d))
+
+pub work-quota : (n : ℕ) (d : Device) → run (stepsDone n d) d ≡ run n d
+work-quota n d = quota-by n d _ refl

@@ -1,16 +1,13 @@
--- The hash steps of a job: after four of them the state holds the HMAC of its key and message. Assumes nothing.
-use Prim.Native.Nat.{ℕ, _≤_}
-use mathlib.Core.Path.{_≡_, refl, sym}
+-- The first steps of a job are the four blocks of an HMAC, of a key and a message that stay the same: each kind's steps are computed.
+-- Assumes nothing.
+use Prim.Native.Nat.{ℕ}
+use mathlib.Core.Path.{_≡_, refl}
 use mathlib.Core.Bool.{true, false}
 use mathlib.Core.List.{List}
-use lib.ListN.{length}
 use Rattle.words.specs.Choice.{pick}
 use Rattle.words.specs.Words.{bytesOfAll}
 use Rattle.words.specs.Table.{field}
-use Rattle.hmac.specs.declared.Quarter.the-variants.{KeyIpad, Message, KeyOpad, InnerDigest}
-use Rattle.hmac.specs.Hmac.{HMAC}
-use Rattle.hmac.specs.Quarters.{chainAfter}
-use Rattle.hmac.proofs.FourBlocks.{four-blocks}
+use Rattle.hmac.proofs.FourBlocks.{second, fourth}
 use Rattle.image.specs.Slot.{slotOf}
 use Rattle.jobs.specs.Jobs.{commandOf}
 use Rattle.jobs.specs.declared.Kind.{Kind}
@@ -49,21 +46,6 @@ busy kind keys counter frame root step chain made inner kept =
             kept = kept;
           };
     }
-
--- the chaining words of an HMAC's second and fourth block
-unfoldable pub second : List ℕ → List ℕ → List ℕ → List ℕ → List ℕ
-second key message chain inner = chainAfter Message key message (chainAfter KeyIpad key message chain inner) inner
-
-unfoldable pub fourth : List ℕ → List ℕ → List ℕ → List ℕ → List ℕ
-fourth key message chain inner =
-    chainAfter InnerDigest key message (chainAfter KeyOpad key message (second key message chain inner) (second key message chain inner))
-    (second key message chain inner)
-
--- after the fourth block, the state holds the HMAC
-pub fourth-hmac :
-    (key message chain inner : List ℕ) → length key ≡ 32 → length message ≤ 55 → bytesOfAll (fourth key message chain inner) ≡ HMAC key message
-unfolding second fourth
-fourth-hmac key message chain inner k m = sym (four-blocks key message _ _ _ _ _ k m)
 
 -- the first four steps of a job, of a key and a message that stay the same
 module _ (image : List ℕ) (keys : List Key) (counter : ℕ) (frame root chain made inner : List ℕ) (kept : ℕ) where
