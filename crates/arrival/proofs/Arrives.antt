@@ -7,16 +7,17 @@ use mathlib.Core.List.{List}
 use lib.Dec.{eqb}
 use Rattle.words.specs.Choice.{pick}
 use Rattle.state.specs.declared.State.{State}
-use Rattle.arrival.specs.Arrival.{statusOnArrival, jobOf, taken, arrived}
+use Rattle.arrival.specs.Arrival.{jobOf, taken, arrived}
+use Rattle.rules.specs.Whole.{statusOnArrival}
 
 pub arrived-fails :
-    (image : List ℕ) (s : State) (frame : List ℕ) → eqb (statusOnArrival image s frame) 0 ≡ false →
-    arrived image s frame ≡ taken s (statusOnArrival image s frame) (s .job)
+    (image : List ℕ) (s : State) (frame : List ℕ) → eqb (statusOnArrival image (s .keys) frame) 0 ≡ false →
+    arrived image s frame ≡ taken s (statusOnArrival image (s .keys) frame) (s .job)
 unfolding arrived pick
 arrived-fails image s frame e = rw e
 
 pub arrived-starts :
-    (image : List ℕ) (s : State) (frame : List ℕ) → eqb (statusOnArrival image s frame) 0 ≡ true →
+    (image : List ℕ) (s : State) (frame : List ℕ) → eqb (statusOnArrival image (s .keys) frame) 0 ≡ true →
     arrived image s frame ≡ taken s 0x01 (jobOf image frame)
 unfolding arrived pick
 arrived-starts image s frame e = rw e

@@ -1,33 +1,17 @@
 -- Document 01, "A taken OP1 frame": checks 1 to 7 are made on arrival with no step, then a job runs. Assumes nothing.
 use Prim.Native.Nat.{ℕ}
-use mathlib.Core.Bool.{Bool, true, false}
+use mathlib.Core.Bool.{true, false}
 use mathlib.Core.List.{List}
 use lib.Dec.{eqb}
 use lib.ListN.{replicate}
 use Rattle.words.specs.Choice.{pick}
-use Rattle.words.specs.Table.{field}
-use Rattle.compare.specs.Compare.{sameBytes}
-use Rattle.image.specs.Header.{count}
 use Rattle.image.specs.Slot.{slotOf, rootKey}
-use Rattle.checks.specs.Layout.{typeOf, counterOf}
-use Rattle.checks.specs.Checks.{arrivalStatus}
+use Rattle.frames.specs.Layout.{typeOf, counterOf}
 use Rattle.jobs.specs.Jobs.{kindOf}
 use Rattle.state.specs.declared.Job.{Job}
 use Rattle.state.specs.declared.State.{State}
-use Rattle.state.specs.Parts.{noReply, sessionKey}
-
--- what a job keeps of a frame: its bytes, and zeros up to 64
-abbrev pub frameKept : List ℕ → List ℕ
-frameKept frame = field 0 64 frame
-
--- a root key frame's key is all FFh
-unfoldable pub isTemporary : List ℕ → Bool
-isTemporary frame = sameBytes (field 4 32 frame) (replicate 32 255)
-
--- the status of checks 1 to 7, 0 if none fails
-unfoldable pub statusOnArrival : List ℕ → State → List ℕ → ℕ
-statusOnArrival image s frame =
-    arrivalStatus frame (count image) (slotOf image (counterOf frame)) (sessionKey s (counterOf frame) .there)
+use Rattle.state.specs.Parts.{noReply}
+use Rattle.rules.specs.Whole.{frameKept, isTemporary, statusOnArrival}
 
 -- the job of a frame. The root key in use is read on arrival and kept, and so is the kind of job
 unfoldable pub jobOf : List ℕ → List ℕ → Job
@@ -59,4 +43,4 @@ taken s status job =
 -- the state after a frame is taken: a job runs, with status 01h, or the first failing check has decided
 unfoldable pub arrived : List ℕ → State → List ℕ → State
 arrived image s frame =
-    pick (eqb (statusOnArrival image s frame) 0) (taken s 0x01 (jobOf image frame)) (taken s (statusOnArrival image s frame) (s .job))
+    pick (eqb (statusOnArrival image (s .keys) frame) 0) (taken s 0x01 (jobOf image frame)) (taken s (statusOnArrival image (s .keys) frame) (s .job))

@@ -3,7 +3,8 @@
 // Contracts cite specs/, document 01's section "A taken OP1 frame".
 ghost use mathlib.Core.Path.{_≡_};
 ghost use Rattle.words.specs.Table.{field};
-ghost use Rattle.arrival.specs.Arrival.{isTemporary, statusOnArrival, jobOf, taken, arrived};
+ghost use Rattle.arrival.specs.Arrival.{jobOf, taken, arrived};
+ghost use Rattle.rules.specs.Whole.{isTemporary, statusOnArrival};
 use state::Job;
 use state::State;
 
@@ -26,7 +27,7 @@ fn is_temporary(frame: [u8; 64]) -> bool
 
 // Checks 1 to 7 of a frame: the status of the first that fails, 0 if none does.
 fn status_on_arrival(image: &[u8], s: State, frame: &[u8]) -> u8
-    ensures { λ r. ⌜ r ≡ statusOnArrival (now (image .entry)) s (now (frame .entry)) ⌝ }
+    ensures { λ r. ⌜ r ≡ statusOnArrival (now (image .entry)) (s .keys) (now (frame .entry)) ⌝ }
 {
     let counter = words::byte(frame, 2);
     let slot = image::slot_of(image, counter);

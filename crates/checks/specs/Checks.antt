@@ -1,5 +1,5 @@
--- Document 01, "A taken OP1 frame": checks 1 to 7, made on arrival. The first failing check decides: its status, or 0 where none
--- fails. Assumes nothing.
+-- Document 01, "A taken OP1 frame": the ten checks, in order. The first failing check decides: its status, or 0 where none fails.
+-- 1 to 7 are made on arrival, 8 to 10 when the signature is known. Assumes nothing.
 use Prim.Native.Nat.{ℕ}
 use mathlib.Core.Bool.{Bool, true, false, not}
 use mathlib.Core.List.{List, [], _∷_}
@@ -31,6 +31,15 @@ arrivalChecks type size reserved counter count slot hasKey =
     ∷ (isBad slot gives 0x20)
     ∷ (wrongState type slot gives 0x02)
     ∷ (notReady type slot hasKey gives 0x08)
+    ∷ []
+
+-- 8. signature, first of type 00, then of the others. 9. type 02, data is not the counter value. 10. type 02, value FFFFFFFFh
+abbrev pub lastChecks : ℕ → Bool → ℕ → ℕ → List (Row ℕ)
+lastChecks type holds sent value =
+    (pick holds false (eqb type 0) gives 0x02)
+    ∷ (not holds gives 0x04)
+    ∷ (pick (eqb type 2) (not (eqb sent value)) false gives 0x10)
+    ∷ (pick (eqb type 2) (eqb value 0xFFFFFFFF) false gives 0x20)
     ∷ []
 
 -- checks 1 to 7 of a frame, with the image's count, the counter's slot, and whether the counter has a session key

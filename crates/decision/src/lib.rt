@@ -14,7 +14,8 @@ ghost use Rattle.compare.specs.Compare.{differences};
 ghost use Rattle.jobs.specs.Jobs.{commandType};
 ghost use Rattle.decision.specs.Place.{signatureAt};
 ghost use Rattle.decision.specs.Signature.{signatureHolds};
-ghost use Rattle.decision.specs.Decision.{lastChecks, decision};
+ghost use Rattle.checks.specs.Checks.{lastChecks};
+ghost use Rattle.decision.specs.Decision.{decision};
 use jobs::Command;
 
 // Where the 32 bytes of a signature start in a frame. Of type 00 the first 4 are not there: the key sent ends in their place.

@@ -8,6 +8,7 @@ use Rattle.frames.specs.Classes.{classOf}
 use Rattle.state.specs.declared.State.{State}
 use Rattle.state.specs.Parts.{powerOn}
 use Rattle.state.specs.Refusal.{deviceRefusal}
+use Rattle.rules.specs.Whole.{Outcome}
 use Rattle.device.specs.declared.Answer.{Answer}
 use Rattle.device.specs.Frame.{stateAfter, outputAfter}
 use Rattle.device.specs.Work.{Device, run, stepsDone}
@@ -72,3 +73,7 @@ after (Work quota) d = leaving (afterWork d quota) [] (imageAfterWork d quota)
 -- the device after a call
 abbrev pub called : Call → Device → Device
 called call d = after call d .device
+
+-- what is seen of a device
+abbrev pub outcome : Device → Outcome
+outcome d = record { status = d .state .status; keys = d .state .keys; reply = d .state .reply; image = d .image }

@@ -8,8 +8,8 @@ use Rattle.words.specs.Table.{field}
 use Rattle.words.proofs.Fields.{field-field, field-between, field-behind}
 use Rattle.hmac.specs.Hmac.{HMAC}
 use Rattle.hmac.proofs.Lengths.{length-HMAC}
-use Rattle.checks.specs.Layout.{counterOf}
-use Rattle.arrival.specs.Arrival.{frameKept}
+use Rattle.frames.specs.Layout.{counterOf}
+use Rattle.rules.specs.Whole.{frameKept}
 use Rattle.host.specs.Frames.{head, signedBy}
 
 -- the first 64 bytes are kept as they are

@@ -17,9 +17,8 @@ use Rattle.jobs.specs.declared.Command.{Command}
 use Rattle.jobs.specs.declared.Command.the-variants.{WriteRootKey, UpdateSessionKey, IncrementCounter, RequestCounter}
 use Rattle.image.specs.Slot.{rootKey}
 use Rattle.decision.specs.Signature.{signatureHolds, signatureStatus}
-use Rattle.arrival.specs.Arrival.{frameKept}
+use Rattle.rules.specs.Whole.{frameKept, signature, keyIn}
 use Rattle.device.specs.Work.{Device}
-use Rattle.rules.specs.Whole.{keyThere, signature}
 use Rattle.host.specs.Frames.{head, signedBy, sessionKey, rootKeyFrame, sessionKeyFrame, incrementFrame, requestFrame}
 use Rattle.ends.proofs.Fields.{kept-field, counter-sent, front-sent, data-sent, signature-sent}
 
@@ -70,14 +69,14 @@ session-key-passes d counter keyData size =
 -- types 02 and 03, built with the counter's session key
 pub increment-passes :
     (d : Device) (counter : ℕ) (key value : List ℕ) → length value ≡ 4 →
-    keyThere d (incrementFrame counter key value) ≡ key → Passes IncrementCounter d (incrementFrame counter key value)
+    keyIn d (incrementFrame counter key value) ≡ key → Passes IncrementCounter d (incrementFrame counter key value)
 unfolding signatureStatus signatureHolds incrementFrame pick
 increment-passes d counter key value size same =
     rw (same, same-sent key 2 counter value 4 size (omega arith))
 
 pub request-passes :
     (d : Device) (counter : ℕ) (key tag : List ℕ) → length tag ≡ 12 →
-    keyThere d (requestFrame counter key tag) ≡ key → Passes RequestCounter d (requestFrame counter key tag)
+    keyIn d (requestFrame counter key tag) ≡ key → Passes RequestCounter d (requestFrame counter key tag)
 unfolding signatureStatus signatureHolds requestFrame pick
 request-passes d counter key tag size same =
     rw (same, same-sent key 3 counter tag 12 size (omega arith))

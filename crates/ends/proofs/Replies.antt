@@ -18,9 +18,8 @@ use Rattle.frames.specs.Reading.{readByte, readOutput}
 use Rattle.jobs.specs.Jobs.{kindOf}
 use Rattle.jobs.specs.declared.Kind.the-variants.{Request}
 use Rattle.decision.specs.Decision.{decision}
-use Rattle.arrival.specs.Arrival.{frameKept, statusOnArrival}
+use Rattle.rules.specs.Whole.{frameKept, statusOnArrival, kindIn, valueIn, allChecks, carriedOut, whole, keyIn, lastStatus}
 use Rattle.device.specs.Work.{Device}
-use Rattle.rules.specs.Whole.{kindIn, valueIn, keyThere, lastChecks, allChecks, carriedOut, whole}
 use Rattle.host.specs.Frames.{signedBy, requestFrame}
 use Rattle.host.specs.declared.Verdict.the-variants.{Good}
 use Rattle.host.specs.Reading.{readReply, partOf}
@@ -85,8 +84,8 @@ module _ (key tag : List ℕ) (value : ℕ) (long : length key ≡ 32) (size : l
 -- a request that the host built with the counter's session key, and that checks 1 to 7 let through
 module _
     (d : Device) (counter : ℕ) (key tag : List ℕ) (long : length key ≡ 32) (size : length tag ≡ 12)
-    (same : keyThere d (requestFrame counter key tag) ≡ key)
-    (taken : statusOnArrival (d .image) (d .state) (requestFrame counter key tag) ≡ 0) where
+    (same : keyIn d (requestFrame counter key tag) ≡ key)
+    (taken : statusOnArrival (d .image) (d .state .keys) (requestFrame counter key tag) ≡ 0) where
   abbrev frame : List ℕ
   frame = requestFrame counter key tag
 
@@ -95,7 +94,7 @@ module _
   kind-asked = refl
 
   no-check-fails : allChecks d frame ≡ 0
-  unfolding allChecks lastChecks decision pick
+  unfolding allChecks lastStatus decision pick
   no-check-fails = rw (taken, kind-asked, request-passes d counter key tag size same)
 
   tag-kept : field 4 12 (frameKept frame) ≡ tag

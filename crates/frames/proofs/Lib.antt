@@ -1,2 +1,3 @@
--- That each public function has one answer only.
+-- What holds of the frame table, and that each public function has one answer only.
+pub mod Layouts
 pub mod OneAnswer

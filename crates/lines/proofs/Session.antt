@@ -14,7 +14,8 @@ use Rattle.checks.specs.Checks.{shapeStatus, arrivalStatus}
 use Rattle.jobs.specs.Jobs.{longestOf, longest}
 use Rattle.state.specs.Parts.{powerOn}
 use Rattle.state.specs.Refusal.{isRunning, jobRefusal, deviceRefusal}
-use Rattle.arrival.specs.Arrival.{statusOnArrival, taken, arrived}
+use Rattle.arrival.specs.Arrival.{taken, arrived}
+use Rattle.rules.specs.Whole.{statusOnArrival}
 use Rattle.device.specs.Frame.{withEnabled}
 use Rattle.device.specs.Work.{Device, run, within, stepsLeft}
 use Rattle.device.specs.Calls.{device, poweredUp, afterFrame, outputAfterFrame, afterSteps, afterWork, imageAfterWork}

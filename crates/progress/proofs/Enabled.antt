@@ -14,7 +14,8 @@ use Rattle.state.specs.Parts.{posted}
 use Rattle.state.specs.Refusal.{isRunning}
 use Rattle.signing.specs.Hashed.{blockDone, withBlock, hashed}
 use Rattle.steps.specs.Ending.{withKey, withReply, withStep, isLast, finishedBy, advanced}
-use Rattle.steps.specs.Deciding.{keptAfter, withKept, decisionOf, decided, hashStep}
+use Rattle.steps.specs.Deciding.{withKept, decisionOf, decided, hashStep}
+use Rattle.rules.specs.Whole.{keptAfter}
 use Rattle.steps.specs.Step.{isHash, stepState, stepImage}
 use Rattle.device.specs.Frame.{withEnabled}
 use Rattle.device.specs.Work.{Device, stepped, run}

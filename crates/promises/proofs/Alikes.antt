@@ -14,12 +14,12 @@ use Rattle.image.proofs.Laid.{SameHeader, same-laid}
 use Rattle.jobs.specs.Jobs.{commandOf}
 use Rattle.jobs.specs.declared.Kind.{Kind}
 use Rattle.jobs.specs.declared.Kind.the-variants.{RootKeyAndCounter, RootKey, CounterOnly, Nothing, SessionKey, Increment, Request}
-use Rattle.checks.specs.Layout.{counterOf}
+use Rattle.frames.specs.Layout.{counterOf}
 use Rattle.state.specs.declared.Key.{Key}
 use Rattle.state.specs.Parts.{noKey}
-use Rattle.arrival.specs.Arrival.{statusOnArrival}
+use Rattle.rules.specs.Whole.{statusOnArrival, kindIn, failedWith, keysAfter, carriedOut, whole, newSessionKey}
 use Rattle.device.specs.Work.{Device}
-use Rattle.rules.specs.Whole.{outcome, kindIn, newKey, failedWith, keysAfter, carriedOut, whole}
+use Rattle.device.specs.Calls.{outcome}
 use Rattle.rules.proofs.Taken.{below-count, one-end}
 use Rattle.promises.specs.Compared.{counterIn, Alike}
 use Rattle.promises.proofs.Own.{SameTo}
@@ -31,18 +31,18 @@ module _ (d : Device) (frame : List ℕ) (formed : Formed (d .image) (d .state .
   c = counterOf frame
 
   -- a new session key has 32 bytes
-  long-new : length (newKey d frame) ≡ 32
+  long-new : length (newSessionKey d frame) ≡ 32
   long-new = length-HMAC _ _
 
   long-own :
-      (kind : Kind) → statusOnArrival (d .image) (d .state) frame ≡ 0 → length (getD (keysAfter (commandOf kind) d frame) c noKey .bytes) ≡ 32
+      (kind : Kind) → statusOnArrival (d .image) (d .state .keys) frame ≡ 0 → length (getD (keysAfter (commandOf kind) d frame) c noKey .bytes) ≡ 32
   long-own RootKeyAndCounter passed = formed .long c
   long-own RootKey passed = formed .long c
   long-own CounterOnly passed = formed .long c
   long-own Nothing passed = formed .long c
   long-own SessionKey passed =
       let place : c < length (d .state .keys) = omega (arith, formed .four, below-count d frame passed, formed .laid .few) in
-      rw (getD-set-same (d .state .keys) c (record { there = true; bytes = newKey d frame }) noKey place) long-new
+      rw (getD-set-same (d .state .keys) c (record { there = true; bytes = newSessionKey d frame }) noKey place) long-new
   long-own Increment passed = formed .long c
   long-own Request passed = formed .long c
 

@@ -13,24 +13,24 @@ use Rattle.image.specs.Refusal.{refusal}
 use Rattle.image.proofs.Laid.{SameHeader, then-header, back-header, same-laid, accepted-laid, same-refusal}
 use Rattle.jobs.specs.Jobs.{commandOf, hashSteps, longest}
 use Rattle.jobs.proofs.Longest.{some-steps}
-use Rattle.checks.specs.Layout.{counterOf}
+use Rattle.frames.specs.Layout.{counterOf}
 use Rattle.state.specs.declared.Key.{Key}
 use Rattle.state.specs.declared.State.{State}
 use Rattle.state.specs.Parts.{noKey, powerOn}
 use Rattle.state.proofs.Inside.{no-key}
 use Rattle.state.proofs.Running.{no-job-idle}
 use Rattle.plan.specs.Storing.{allStored}
-use Rattle.arrival.specs.Arrival.{frameKept, statusOnArrival, jobOf, taken}
+use Rattle.arrival.specs.Arrival.{jobOf, taken}
+use Rattle.rules.specs.Whole.{frameKept, statusOnArrival, Outcome, kindIn, whole}
 use Rattle.arrival.proofs.Arrives.{arrived-starts, arrived-fails}
 use Rattle.device.specs.Frame.{withEnabled}
 use Rattle.device.specs.Work.{Device, run}
-use Rattle.device.specs.Calls.{device}
+use Rattle.device.specs.Calls.{device, outcome}
 use Rattle.progress.proofs.Runs.{run-idle, run-add}
 use Rattle.progress.proofs.Jobs.{At, progress}
 use Rattle.progress.proofs.Enabled.{enabledAs, run-same}
 use Rattle.progress.proofs.Ends.{same-end}
-use Rattle.rules.specs.Whole.{Outcome, outcome, kindIn, whole}
-use Rattle.rules.proofs.RunsWhole.{runs-whole}
+use Rattle.progress.proofs.RunsWhole.{runs-whole}
 use Rattle.promises.specs.Compared.{Alike}
 use Rattle.promises.specs.Account.{Account, isBusy, idle, goneBy, worked, interrupted, cut}
 use Rattle.promises.specs.Formed.{Formed}
@@ -177,7 +177,7 @@ module _ (a : Account) (accepted : refusal (a .asIf .image) ≡ 0) (r : Resting 
         stored-so-far = rw (zero-sub (hashSteps (commandOf (kindIn d frame))));
       }
 
-  pub taken-by : (b : Bool) → eqb (statusOnArrival (d .image) (d .state) frame) 0 ≡ b → Sound (worked (started d frame) frame a)
+  pub taken-by : (b : Bool) → eqb (statusOnArrival (d .image) (d .state .keys) frame) 0 ≡ b → Sound (worked (started d frame) frame a)
   unfolding taken jobOf withEnabled run allStored
   taken-by true e =
       let arrives = arrived-starts (d .image) (d .state) frame e in

@@ -11,10 +11,12 @@ use Rattle.words.specs.Choice.{pick, orElse}
 use Rattle.words.proofs.Choice.{either}
 use Rattle.image.specs.Slot.{isBad}
 use Rattle.frames.specs.Classes.{namedClass, classOf}
-use Rattle.checks.specs.Layout.{counterOf, frameLength}
+use Rattle.checks.specs.Layout.{frameLength}
+use Rattle.frames.specs.Layout.{counterOf}
 use Rattle.checks.specs.Checks.{shapeStatus, counterStatus, stateStatus, slotStatus, arrivalStatus}
 use Rattle.state.specs.Parts.{sessionKey}
-use Rattle.arrival.specs.Arrival.{statusOnArrival, taken}
+use Rattle.arrival.specs.Arrival.{taken}
+use Rattle.rules.specs.Whole.{statusOnArrival}
 use Rattle.arrival.proofs.Arrives.{arrived-fails}
 use Rattle.device.specs.Frame.{withEnabled}
 use Rattle.device.specs.Work.{Device}
@@ -42,7 +44,7 @@ module _ (d : Device) (ready : Ready d) (frame output : List ℕ) where
   -- checks 1 to 3 do not fail
   past-shape :
       (type : ℕ) → type ≤ 3 → Shaped type frame →
-      statusOnArrival (d .image) (d .state) frame ≡ orElse (counterStatus type c 4) (slotStatus type (slotFor d frame) hasKey)
+      statusOnArrival (d .image) (d .state .keys) frame ≡ orElse (counterStatus type c 4) (slotStatus type (slotFor d frame) hasKey)
   unfolding statusOnArrival arrivalStatus shapeStatus pick
   past-shape type known shaped =
       rw (
@@ -55,13 +57,13 @@ module _ (d : Device) (ready : Ready d) (frame output : List ℕ) where
 
   -- nor does check 4
   pub past-counter :
-      (type : ℕ) → type ≤ 3 → InOrder type frame → statusOnArrival (d .image) (d .state) frame ≡ slotStatus type (slotFor d frame) hasKey
+      (type : ℕ) → type ≤ 3 → InOrder type frame → statusOnArrival (d .image) (d .state .keys) frame ≡ slotStatus type (slotFor d frame) hasKey
   unfolding counterStatus pick
   past-counter type known in-order = past-shape type known (in-order .shaped) ∙ rw (lt-ltb c 4 (in-order .named))
 
   -- a frame that fails on arrival ends with its status
   fails :
-      getD frame 0 0 ≡ 0x9B → 1 < length frame → (status : ℕ) → statusOnArrival (d .image) (d .state) frame ≡ status → eqb status 0 ≡ false →
+      getD frame 0 0 ≡ 0x9B → 1 < length frame → (status : ℕ) → statusOnArrival (d .image) (d .state .keys) frame ≡ status → eqb status 0 ≡ false →
       Ends status (called (Frame frame output) d)
   unfolding taken
   fails first long status decided bad =
@@ -70,7 +72,7 @@ module _ (d : Device) (ready : Ready d) (frame output : List ℕ) where
       subst (Ends status) (sym after) (ready .none, decided)
 
   shaped-fails :
-      (type : ℕ) → Shaped type frame → (status : ℕ) → statusOnArrival (d .image) (d .state) frame ≡ status → eqb status 0 ≡ false →
+      (type : ℕ) → Shaped type frame → (status : ℕ) → statusOnArrival (d .image) (d .state .keys) frame ≡ status → eqb status 0 ≡ false →
       Ends status (called (Frame frame output) d)
   shaped-fails type shaped = fails (shaped .first) (shaped-long type frame shaped)
 

@@ -13,10 +13,9 @@ use Rattle.frames.specs.declared.Class.the-variants.{Command}
 use Rattle.frames.specs.Classes.{namedClass, classOf}
 use Rattle.device.specs.Frame.{withEnabled, stateAfter}
 use Rattle.device.specs.Work.{Device, run}
-use Rattle.device.specs.Calls.{device, After, Frame, Work, called}
+use Rattle.device.specs.Calls.{device, After, Frame, Work, called, outcome}
 use Rattle.progress.proofs.Enabled.{enabledAs}
 use Rattle.progress.proofs.Ends.{work-quota}
-use Rattle.rules.specs.Whole.{outcome}
 use Rattle.promises.specs.Orders.{allCalled}
 use Rattle.promises.specs.Account.{Account, accounted}
 use Rattle.promises.specs.Examples.{Example, Ready, Given, script, Seen}

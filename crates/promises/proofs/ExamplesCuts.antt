@@ -12,12 +12,12 @@ use Rattle.image.specs.Slot.{slotOf, unset}
 use Rattle.image.proofs.Laid.{Laid, same-laid, accepted-laid}
 use Rattle.image.proofs.Slots.{slotBytes, root-in, counter-in}
 use Rattle.jobs.specs.declared.Kind.the-variants.{RootKeyAndCounter}
-use Rattle.checks.specs.Layout.{counterOf}
+use Rattle.frames.specs.Layout.{counterOf}
 use Rattle.plan.specs.declared.Store.{Store}
 use Rattle.plan.specs.Stores.{keyStores, stores}
 use Rattle.plan.specs.Storing.{allStored}
 use Rattle.plan.proofs.InSlot.{putAll, some-made}
-use Rattle.arrival.specs.Arrival.{frameKept}
+use Rattle.rules.specs.Whole.{frameKept}
 use Rattle.device.specs.Work.{Device}
 use Rattle.promises.specs.Compared.{Counter, counterIn}
 use Rattle.promises.specs.Orders.{allCalled}

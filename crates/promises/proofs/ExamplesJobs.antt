@@ -15,7 +15,7 @@ use Rattle.jobs.specs.Jobs.{rootKind, kindOf}
 use Rattle.jobs.specs.declared.Command.the-variants.{WriteRootKey, IncrementCounter}
 use Rattle.jobs.specs.declared.Kind.{Kind}
 use Rattle.jobs.specs.declared.Kind.the-variants.{RootKeyAndCounter, Nothing, Increment}
-use Rattle.checks.specs.Layout.{counterOf}
+use Rattle.frames.specs.Layout.{counterOf}
 use Rattle.checks.specs.Checks.{stateStatus, slotStatus}
 use Rattle.state.specs.declared.Key.{Key}
 use Rattle.state.specs.declared.State.{State}
@@ -26,15 +26,15 @@ use Rattle.plan.specs.Stores.{keyStores, stores}
 use Rattle.plan.specs.Storing.{allStored}
 use Rattle.steps.specs.Ending.{withStep, advanced}
 use Rattle.steps.specs.Deciding.{withKept, decisionOf, decided}
-use Rattle.arrival.specs.Arrival.{frameKept, jobOf, taken}
+use Rattle.arrival.specs.Arrival.{jobOf, taken}
+use Rattle.rules.specs.Whole.{frameKept, kindIn, valueIn, keyIn}
 use Rattle.arrival.proofs.Arrives.{arrived-starts}
 use Rattle.device.specs.Work.{Device, run}
 use Rattle.device.specs.Calls.{device, Frame, Work, called}
 use Rattle.progress.proofs.Runs.{run-add}
 use Rattle.progress.proofs.Hashing.{busy, begun, hashedAt, afterFour, four-steps}
 use Rattle.progress.proofs.Stores.{stores-left, all-made}
-use Rattle.rules.specs.Whole.{kindIn, valueIn, keyThere}
-use Rattle.rules.proofs.RunsWhole.{short}
+use Rattle.progress.proofs.RunsWhole.{short}
 use Rattle.promises.specs.Orders.{allCalled}
 use Rattle.promises.specs.Examples.{P9-before-the-end, P9-at-the-end, P11, P12, Ready, slotFor, InOrder, Good, Pairs, Ends, Seen}
 use Rattle.promises.proofs.Sound.{started}
@@ -99,7 +99,7 @@ module _ (d : Device) (ready : Ready d) (frame output : List ℕ) where
   unfolding decision signatureStatus incrementStatus pick
   increment-full good told full =
       rw (
-        fourth-hmac (keyThere d frame) (field 0 8 sent) (d .state .chain) (replicate 8 0) (ready .long-keys c) (short 0 8 sent (omega arith)),
+        fourth-hmac (keyIn d frame) (field 0 8 sent) (d .state .chain) (replicate 8 0) (ready .long-keys c) (short 0 8 sent (omega arith)),
         good,
         told,
         full,

@@ -13,18 +13,17 @@ use Rattle.image.specs.Refusal.{refusal}
 use Rattle.frames.specs.declared.Class.{Class}
 use Rattle.frames.specs.declared.Class.the-variants.{Empty, EnableReset, Reset, Read, Command, Unnamed}
 use Rattle.frames.specs.Classes.{classOf}
-use Rattle.checks.specs.Layout.{counterOf}
+use Rattle.frames.specs.Layout.{counterOf}
 use Rattle.state.specs.Parts.{powerOn}
 use Rattle.state.specs.Refusal.{jobRefusal, deviceRefusal}
 use Rattle.state.proofs.Running.{no-job-idle}
 use Rattle.arrival.specs.Arrival.{arrived}
 use Rattle.device.specs.Frame.{withEnabled, stateAfter, outputAfter}
 use Rattle.device.specs.Work.{Device, run, stepsDone}
-use Rattle.device.specs.Calls.{device, poweredUp, After, Call, PowerUp, Frame, Work, called, after}
+use Rattle.device.specs.Calls.{device, poweredUp, After, Call, PowerUp, Frame, Work, called, after, outcome}
 use Rattle.device.proofs.AfterCalls.{frame-accepted, work-accepted}
 use Rattle.progress.proofs.Runs.{run-idle}
 use Rattle.progress.proofs.Jobs.{runs}
-use Rattle.rules.specs.Whole.{outcome}
 use Rattle.promises.specs.Compared.{Alike}
 use Rattle.promises.specs.Orders.{allCalled}
 use Rattle.promises.specs.Account.{Account, isBusy, goneBy, worked, cut, framed, accounted, account, begun}

@@ -18,13 +18,12 @@ use Rattle.image.proofs.Slots.{slotBytes, root-in, counter-in}
 use Rattle.jobs.specs.Jobs.{commandOf, hashSteps}
 use Rattle.jobs.specs.declared.Kind.{Kind}
 use Rattle.jobs.specs.declared.Kind.the-variants.{RootKeyAndCounter, RootKey, CounterOnly, Nothing, SessionKey, Increment, Request}
-use Rattle.checks.specs.Layout.{counterOf}
+use Rattle.frames.specs.Layout.{counterOf}
 use Rattle.plan.specs.declared.Store.{Store}
 use Rattle.plan.specs.Stores.{stores}
 use Rattle.plan.proofs.InSlot.{putAll, InSlot, made, some-made}
 use Rattle.plan.proofs.Plans.{plan-length}
-use Rattle.arrival.specs.Arrival.{frameKept}
-use Rattle.rules.specs.Whole.{Outcome, kindIn}
+use Rattle.rules.specs.Whole.{frameKept, Outcome, kindIn}
 use Rattle.rules.proofs.Taken.{Facts, below-count, facts}
 use Rattle.promises.specs.Compared.{Counter, counterIn}
 use Rattle.promises.specs.Account.{Account, hasSet, setTo0, interrupted}

@@ -13,14 +13,13 @@ use Rattle.image.proofs.Laid.{SameHeader}
 use Rattle.jobs.specs.Jobs.{commandOf}
 use Rattle.jobs.specs.declared.Kind.{Kind}
 use Rattle.jobs.specs.declared.Kind.the-variants.{RootKeyAndCounter, RootKey, CounterOnly, Nothing, SessionKey, Increment, Request}
-use Rattle.checks.specs.Layout.{typeOf, counterOf}
+use Rattle.frames.specs.Layout.{typeOf, counterOf}
 use Rattle.checks.specs.Checks.{shapeStatus, counterStatus, slotStatus, arrivalStatus}
 use Rattle.state.specs.declared.Key.{Key}
 use Rattle.state.specs.Parts.{sessionKey}
 use Rattle.decision.specs.Decision.{decision}
-use Rattle.arrival.specs.Arrival.{statusOnArrival}
+use Rattle.rules.specs.Whole.{statusOnArrival, kindIn, allChecks, keyIn, newSessionKey, lastStatus}
 use Rattle.device.specs.Work.{Device}
-use Rattle.rules.specs.Whole.{kindIn, keyThere, newKey, lastChecks, allChecks}
 use Rattle.rules.proofs.Taken.{Facts, below-count, facts}
 use Rattle.promises.specs.Compared.{Counter, counterIn}
 
@@ -44,7 +43,7 @@ module _ (frame : List ℕ) (d e : Device) (same : SameTo frame d e) where
   abbrev c : ℕ
   c = counterOf frame
 
-  pub key-there-same : keyThere d frame ≡ keyThere e frame
+  pub key-there-same : keyIn d frame ≡ keyIn e frame
   key-there-same = ap (λ (key : Key). key .bytes) (same .session)
 
   root-same : c < count (d .image) → slotOf (d .image) c .root ≡ slotOf (e .image) c .root
@@ -66,7 +65,7 @@ module _ (frame : List ℕ) (d e : Device) (same : SameTo frame d e) where
       let set' : isSet (slotOf (e .image) c .counter) ≡ true = rw (← counter-same below) set in
       rw (set, set') at shown
 
-  arrival-by : (b : Bool) → ltb c (count (d .image)) ≡ b → statusOnArrival (d .image) (d .state) frame ≡ statusOnArrival (e .image) (e .state) frame
+  arrival-by : (b : Bool) → ltb c (count (d .image)) ≡ b → statusOnArrival (d .image) (d .state .keys) frame ≡ statusOnArrival (e .image) (e .state .keys) frame
   unfolding statusOnArrival arrivalStatus counterStatus slotStatus isBad
   arrival-by true l =
       let below = ltb-true c (count (d .image)) l in
@@ -78,11 +77,11 @@ module _ (frame : List ℕ) (d e : Device) (same : SameTo frame d e) where
       ∙ rw (same .header .counters)
 
   -- checks 1 to 7 come to the same
-  pub arrival-same : statusOnArrival (d .image) (d .state) frame ≡ statusOnArrival (e .image) (e .state) frame
+  pub arrival-same : statusOnArrival (d .image) (d .state .keys) frame ≡ statusOnArrival (e .image) (e .state .keys) frame
   arrival-same = arrival-by _ refl
 
   -- a frame that passes them
-  module _ (passed : statusOnArrival (d .image) (d .state) frame ≡ 0) where
+  module _ (passed : statusOnArrival (d .image) (d .state .keys) frame ≡ 0) where
     below : c < count (d .image)
     below = below-count d frame passed
 
@@ -92,12 +91,12 @@ module _ (frame : List ℕ) (d e : Device) (same : SameTo frame d e) where
     pub root-key-same : rootKey (d .image) c ≡ rootKey (e .image) c
     root-key-same = key-same below
 
-    pub new-key-same : newKey d frame ≡ newKey e frame
+    pub new-key-same : newSessionKey d frame ≡ newSessionKey e frame
     new-key-same = rw root-key-same
 
     -- checks 8 to 10 come to the same: the value is looked at only where the counter is set
-    last-of : (kind : Kind) → Facts kind (slotOf (d .image) c) → lastChecks (commandOf kind) d frame ≡ lastChecks (commandOf kind) e frame
-    unfolding lastChecks decision
+    last-of : (kind : Kind) → Facts kind (slotOf (d .image) c) → lastStatus (commandOf kind) d frame ≡ lastStatus (commandOf kind) e frame
+    unfolding lastStatus decision
     last-of RootKeyAndCounter known = refl
     last-of RootKey known = refl
     last-of CounterOnly known = refl
@@ -106,11 +105,11 @@ module _ (frame : List ℕ) (d e : Device) (same : SameTo frame d e) where
     last-of Increment known = rw (key-there-same, value-same below known)
     last-of Request known = rw key-there-same
 
-    pub last-same : lastChecks (commandOf (kindIn d frame)) d frame ≡ lastChecks (commandOf (kindIn e frame)) e frame
-    last-same = last-of (kindIn d frame) (facts d frame passed) ∙ ap (λ (kind : Kind). lastChecks (commandOf kind) e frame) kind-same
+    pub last-same : lastStatus (commandOf (kindIn d frame)) d frame ≡ lastStatus (commandOf (kindIn e frame)) e frame
+    last-same = last-of (kindIn d frame) (facts d frame passed) ∙ ap (λ (kind : Kind). lastStatus (commandOf kind) e frame) kind-same
 
   -- all checks come to the same
-  checks-by : (b : Bool) → eqb (statusOnArrival (d .image) (d .state) frame) 0 ≡ b → allChecks d frame ≡ allChecks e frame
+  checks-by : (b : Bool) → eqb (statusOnArrival (d .image) (d .state .keys) frame) 0 ≡ b → allChecks d frame ≡ allChecks e frame
   unfolding allChecks pick
   checks-by true p = rw (← arrival-same, p) (last-same (eqb-true _ 0 p))
   checks-by false p = rw (← arrival-same, p)

@@ -12,11 +12,11 @@ use Rattle.jobs.proofs.Longest.{longest-is}
 use Rattle.state.specs.Parts.{noKey, powerOn}
 use Rattle.state.specs.Refusal.{isRunning, deviceRefusal}
 use Rattle.device.specs.Work.{Device, run}
-use Rattle.device.specs.Calls.{device, After, Call, PowerUp, Frame, Work, called, after}
+use Rattle.device.specs.Calls.{device, After, Call, PowerUp, Frame, Work, called, after, outcome}
 use Rattle.device.proofs.AfterCalls.{power-up-keeps, frame-refused, work-refused}
 use Rattle.progress.proofs.Ends.{ends}
 use Rattle.rules.proofs.TooShort.{short-refused}
-use Rattle.rules.specs.Whole.{Outcome, outcome, failedWith, whole}
+use Rattle.rules.specs.Whole.{Outcome, failedWith, whole}
 use Rattle.promises.specs.Compared.{counterIn, Alike}
 use Rattle.promises.specs.Orders.{allCalled}
 use Rattle.promises.specs.Account.{isBusy, account, begun}

@@ -12,7 +12,7 @@ use Rattle.words.specs.Choice.{pick}
 use Rattle.words.proofs.Choice.{both}
 use Rattle.image.specs.Header.{count}
 use Rattle.image.proofs.Laid.{SameHeader, same-header, then-header, back-header}
-use Rattle.checks.specs.Layout.{counterOf}
+use Rattle.frames.specs.Layout.{counterOf}
 use Rattle.state.specs.Parts.{noKey}
 use Rattle.rules.proofs.TooShort.{short-refused}
 use Rattle.rules.specs.Whole.{Outcome, failedWith, whole}

@@ -7,13 +7,13 @@ use mathlib.Core.List.{List, []}
 use Rattle.image.specs.Refusal.{refusal}
 use Rattle.image.proofs.Laid.{SameHeader, same-header}
 use Rattle.jobs.specs.Jobs.{lengthOf}
-use Rattle.checks.specs.Layout.{counterOf}
-use Rattle.arrival.specs.Arrival.{frameKept, statusOnArrival, arrived}
+use Rattle.frames.specs.Layout.{counterOf}
+use Rattle.arrival.specs.Arrival.{arrived}
+use Rattle.rules.specs.Whole.{frameKept, statusOnArrival, kindIn}
 use Rattle.device.specs.Work.{Device, run}
-use Rattle.device.specs.Calls.{device}
+use Rattle.device.specs.Calls.{device, outcome}
 use Rattle.progress.proofs.Jobs.{At}
 use Rattle.progress.proofs.Enabled.{enabledAs}
-use Rattle.rules.specs.Whole.{outcome, kindIn}
 use Rattle.promises.specs.Compared.{Alike}
 use Rattle.promises.specs.Account.{Account}
 use Rattle.promises.specs.Formed.{Formed}
@@ -38,7 +38,7 @@ pub record Working (a : Account) : Type 0 where
   pub none : found .state .job .there ≡ false
   pub header : SameHeader (found .image) (a .asIf .image)
   pub alike : Alike (outcome found) (a .asIf)
-  pub passed : statusOnArrival (found .image) (found .state) (a .frame) ≡ 0
+  pub passed : statusOnArrival (found .image) (found .state .keys) (a .frame) ≡ 0
   pub now : a .device ≡ enabledAs enabled (run steps (started found (a .frame)))
   pub at :
       At (kindIn found (a .frame)) (counterOf (a .frame)) (frameKept (a .frame)) (found .image) steps (a .device .image) (a .device .state)

@@ -15,16 +15,14 @@ use Rattle.image.proofs.Laid.{SameHeader, same-header, Laid, same-laid}
 use Rattle.jobs.specs.Jobs.{commandOf}
 use Rattle.jobs.specs.declared.Kind.{Kind}
 use Rattle.jobs.specs.declared.Kind.the-variants.{RootKeyAndCounter, RootKey, CounterOnly, Nothing, SessionKey, Increment, Request}
-use Rattle.checks.specs.Layout.{counterOf}
+use Rattle.frames.specs.Layout.{counterOf}
 use Rattle.state.specs.declared.Key.{Key}
 use Rattle.state.specs.Parts.{noKey}
 use Rattle.plan.specs.Stores.{stores}
 use Rattle.plan.specs.Storing.{allStored}
 use Rattle.plan.proofs.InSlot.{InSlot, made}
-use Rattle.steps.specs.Deciding.{keptAfter}
-use Rattle.arrival.specs.Arrival.{frameKept, statusOnArrival}
+use Rattle.rules.specs.Whole.{keptAfter, frameKept, statusOnArrival, Outcome, kindIn, valueIn, allChecks, failedWith, keysAfter, replyAfter, imageAfter, carriedOut, whole}
 use Rattle.device.specs.Work.{Device}
-use Rattle.rules.specs.Whole.{Outcome, kindIn, valueIn, allChecks, failedWith, keysAfter, replyAfter, imageAfter, carriedOut, whole}
 use Rattle.rules.proofs.Taken.{Facts, below-count, facts, or-zero, one-end}
 use Rattle.promises.specs.Formed.{Formed}
 use Rattle.promises.specs.Compared.{counterIn}
@@ -79,7 +77,7 @@ module _ (d : Device) (frame : List ℕ) (laid : Laid (d .image)) where
   abbrev kept : ℕ
   kept = keptAfter (commandOf (kindIn d frame)) 0 (valueIn d frame)
 
-  carried-kept : statusOnArrival (d .image) (d .state) frame ≡ 0 → Kept d frame (carriedOut (kindIn d frame) d frame)
+  carried-kept : statusOnArrival (d .image) (d .state .keys) frame ≡ 0 → Kept d frame (carriedOut (kindIn d frame) d frame)
   unfolding carriedOut
   carried-kept passed =
       let below = below-count d frame passed in
@@ -110,7 +108,7 @@ module _
   abbrev own : ℕ
   own = counterOf frame
 
-  module _ (passed : statusOnArrival (d .image) (d .state) frame ≡ 0) where
+  module _ (passed : statusOnArrival (d .image) (d .state .keys) frame ≡ 0) where
     below : own < count (d .image)
     below = below-count d frame passed
 
@@ -181,7 +179,7 @@ module _
   whole-by : (b : Bool) → eqb (allChecks d frame) 0 ≡ b → SameBy frame d e (whole d frame) (whole e frame)
   unfolding whole pick failedWith allChecks
   whole-by true p =
-      rw (← checks-same frame d e same, p) (carried-same (or-zero (statusOnArrival (d .image) (d .state) frame) _ (eqb-true (allChecks d frame) 0 p) .0))
+      rw (← checks-same frame d e same, p) (carried-same (or-zero (statusOnArrival (d .image) (d .state .keys) frame) _ (eqb-true (allChecks d frame) 0 p) .0))
   whole-by false p =
       rw (← checks-same frame d e same, p)
       (record { status = refl; reply = refl; counter = same .counter; session = same .session })

@@ -9,13 +9,13 @@ use Rattle.image.specs.Slot.{slotOf, isSet}
 use Rattle.frames.specs.declared.Class.{Class}
 use Rattle.frames.specs.declared.Class.the-variants.{Empty, EnableReset, Reset, Read, Command, Unnamed}
 use Rattle.frames.specs.Classes.{classOf}
-use Rattle.checks.specs.Layout.{counterOf}
+use Rattle.frames.specs.Layout.{counterOf}
 use Rattle.state.specs.Parts.{noJob, powerOn}
 use Rattle.plan.specs.Stores.{counterStores}
 use Rattle.plan.specs.Storing.{allStored}
 use Rattle.device.specs.Work.{Device}
-use Rattle.device.specs.Calls.{device, Call, PowerUp, Frame, Work, called}
-use Rattle.rules.specs.Whole.{Outcome, outcome, whole}
+use Rattle.device.specs.Calls.{device, Call, PowerUp, Frame, Work, called, outcome}
+use Rattle.rules.specs.Whole.{Outcome, whole}
 
 -- the device itself, what it would be, and the command frame that found it idle last
 pub record Account : Type 0 where

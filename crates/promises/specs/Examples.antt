@@ -12,13 +12,13 @@ use Rattle.image.specs.Slot.{slotOf, unset, isSet, isBad}
 use Rattle.image.specs.Refusal.{refusal}
 use Rattle.jobs.specs.declared.Command.{Command}
 use Rattle.jobs.specs.declared.Command.the-variants.{WriteRootKey, IncrementCounter}
-use Rattle.checks.specs.Layout.{typeOf, counterOf, reservedOf, frameLength}
+use Rattle.checks.specs.Layout.{frameLength}
+use Rattle.frames.specs.Layout.{typeOf, counterOf, reservedOf}
 use Rattle.state.specs.Parts.{noKey, sessionKey}
 use Rattle.decision.specs.Signature.{signatureHolds}
-use Rattle.arrival.specs.Arrival.{frameKept, isTemporary}
+use Rattle.rules.specs.Whole.{frameKept, isTemporary, signature}
 use Rattle.device.specs.Work.{Device}
 use Rattle.device.specs.Calls.{Call, PowerUp, Frame, Work}
-use Rattle.rules.specs.Whole.{signature}
 use Rattle.promises.specs.Account.{isBusy}
 
 -- the rows; P9 and P10 make two claims each

@@ -9,7 +9,7 @@ use Rattle.words.specs.Choice.{pick}
 use Rattle.frames.specs.declared.Class.the-variants.{Command}
 use Rattle.frames.specs.Classes.{classOf}
 use Rattle.jobs.specs.Jobs.{longest}
-use Rattle.checks.specs.Layout.{counterOf}
+use Rattle.frames.specs.Layout.{counterOf}
 use Rattle.device.specs.Calls.{Call, Frame, Work}
 use Rattle.rules.specs.Whole.{Outcome, whole}
 use Rattle.promises.specs.Account.{idle}

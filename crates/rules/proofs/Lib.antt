@@ -1,6 +1,5 @@
--- That the step machine obeys the whole-frame rules, and what the page says of a frame that passes, that fails and that is too short.
-pub mod Storing
-pub mod Ended
-pub mod RunsWhole
+-- What the page says of a frame: that its ten checks are those on arrival and then the last ones, what a frame that passes has met, and
+-- that one that is too short fails.
+pub mod TenChecks
 pub mod Taken
 pub mod TooShort

@@ -2,32 +2,27 @@
 -- Assumes nothing.
 use Prim.Native.Nat.{ℕ, _≤_}
 use mathlib.Core.Path.{_≡_, refl}
+use mathlib.Core.Bool.{Bool, true, false}
 use mathlib.Core.List.{List}
 use native.Mathlib.Omega.{arith}
-use borrow.Author.Tests.{ne-eqb}
+use borrow.Author.Tests.{ltb-false, ne-eqb}
 use lib.Dec.{ltb, eqb}
 use lib.ListN.{length}
 use Rattle.words.specs.Choice.{pick}
-use Rattle.words.proofs.Choice.{either}
-use Rattle.checks.specs.Layout.{typeOf, frameLength}
-use Rattle.checks.specs.Checks.{shapeStatus, arrivalStatus}
-use Rattle.arrival.specs.Arrival.{statusOnArrival}
-use Rattle.device.specs.Work.{Device}
-use Rattle.rules.specs.Whole.{allChecks, failedWith, whole}
+use Rattle.words.specs.Rows.{firstOf}
+use Rattle.frames.specs.Layout.{layoutOf, typeOf}
+use Rattle.frames.proofs.Layouts.{long-frames}
+use Rattle.rules.specs.Whole.{Outcome, allChecks, failedWith, whole}
 
--- no frame has two bytes or fewer
-long-frames : (type : ℕ) → 40 ≤ frameLength type
-unfolding frameLength
-long-frames type =
-    either (λ (n : ℕ). 40 ≤ n) (eqb type 0) 64 _ (λ _. omega arith) (λ _. either (λ (n : ℕ). 40 ≤ n) (eqb type 3) 48 40 (λ _. omega arith) (λ _. omega arith))
-
-short-shape : (frame : List ℕ) → length frame ≤ 2 → shapeStatus frame ≡ 0x04
-unfolding shapeStatus pick
-short-shape frame h =
-    let long = long-frames (typeOf frame) in
-    rw (ne-eqb (length frame) (frameLength (typeOf frame)) (λ e. omega (arith, long, e))) (either (λ (n : ℕ). n ≡ 0x04) (ltb 3 (typeOf frame)) 0x04 0x04 (λ _. refl) (λ _. refl))
+-- check 1 or check 2 fails
+short-by : (o : Outcome) (frame : List ℕ) → length frame ≤ 2 → (t : Bool) → ltb 3 (typeOf frame) ≡ t → allChecks o frame ≡ 0x04
+unfolding allChecks firstOf pick
+short-by o frame h true e = rw e
+short-by o frame h false e =
+    let long = long-frames (typeOf frame) (ltb-false 3 (typeOf frame) e) in
+    rw (e, ne-eqb (length frame) (layoutOf (typeOf frame) .size) (λ same. omega (arith, long, same)))
 
 -- so a frame that belongs to no counter fails, and changes no counter and no key
-pub short-refused : (d : Device) (frame : List ℕ) → length frame ≤ 2 → whole d frame ≡ failedWith 0x04 d
-unfolding whole allChecks statusOnArrival arrivalStatus pick
-short-refused d frame h = rw (short-shape frame h)
+pub short-refused : (o : Outcome) (frame : List ℕ) → length frame ≤ 2 → whole o frame ≡ failedWith 0x04 o
+unfolding whole pick
+short-refused o frame h = rw (short-by o frame h _ refl)

@@ -1,29 +1,30 @@
 -- Document 01, "A taken OP1 frame" and "Steps", as one page: what a command frame that finds the device idle comes to, once its
 -- job has run to its end. Assumes nothing.
-use Prim.Native.Nat.{ℕ}
-use mathlib.Core.Bool.{true}
+use Prim.Native.Nat.{ℕ, _+_, _%_, _^_}
+use mathlib.Core.Bool.{Bool, true}
 use mathlib.Core.List.{List, _++_}
 use lib.Dec.{eqb}
-use lib.ListN.{set}
-use Rattle.words.specs.Choice.{pick, orElse}
+use lib.ListN.{getD, set, replicate}
+use Rattle.words.specs.Choice.{pick}
+use Rattle.words.specs.Rows.{Row, firstFailing}
 use Rattle.words.specs.Words.{bytesOf}
 use Rattle.words.specs.Table.{field}
+use Rattle.compare.specs.Compare.{sameBytes}
 use Rattle.hmac.specs.Hmac.{HMAC}
+use Rattle.image.specs.Header.{count}
 use Rattle.image.specs.Slot.{slotOf, rootKey}
 use Rattle.frames.specs.declared.Reply.{Reply}
-use Rattle.checks.specs.Layout.{typeOf, counterOf}
-use Rattle.jobs.specs.Jobs.{commandOf, kindOf}
+use Rattle.frames.specs.Layout.{Signer, KeySent, NewSessionKey, SessionKey, layoutOf, typeOf, counterOf, signedIn, dataIn}
+use Rattle.checks.specs.Checks.{checksOf, arrivalStatus}
+use Rattle.jobs.specs.Jobs.{commandOf, commandType, kindOf}
 use Rattle.jobs.specs.declared.Command.{Command}
 use Rattle.jobs.specs.declared.Command.the-variants.{WriteRootKey, UpdateSessionKey, IncrementCounter, RequestCounter}
 use Rattle.jobs.specs.declared.Kind.{Kind}
-use Rattle.decision.specs.Decision.{decision}
+use Rattle.decision.specs.Decision.{lastChecksOf, decision}
 use Rattle.plan.specs.Stores.{stores}
 use Rattle.plan.specs.Storing.{allStored}
 use Rattle.state.specs.declared.Key.{Key}
-use Rattle.state.specs.Parts.{noReply, sessionKey}
-use Rattle.steps.specs.Deciding.{keptAfter}
-use Rattle.arrival.specs.Arrival.{frameKept, isTemporary, statusOnArrival}
-use Rattle.device.specs.Work.{Device}
+use Rattle.state.specs.Parts.{noKey, noReply}
 
 -- what is seen of a device: status, session keys, reply and image
 pub record Outcome : Type 0 where
@@ -32,79 +33,106 @@ pub record Outcome : Type 0 where
   pub reply : Reply
   pub image : List ℕ
 
-abbrev pub outcome : Device → Outcome
-outcome d = record { status = d .state .status; keys = d .state .keys; reply = d .state .reply; image = d .image }
+-- what a job keeps of a frame: its bytes, and zeros up to 64
+abbrev pub frameKept : List ℕ → List ℕ
+frameKept frame = field 0 64 frame
+
+-- a root key frame's key is all FFh
+unfoldable pub isTemporary : List ℕ → Bool
+isTemporary frame = sameBytes (dataIn 0 frame) (replicate 32 255)
 
 -- the kind of job that the frame starts
-abbrev pub kindIn : Device → List ℕ → Kind
-kindIn d frame = kindOf (typeOf frame) (isTemporary (frameKept frame)) (slotOf (d .image) (counterOf frame) .counter)
+abbrev pub kindIn : Outcome → List ℕ → Kind
+kindIn o frame = kindOf (typeOf frame) (isTemporary (frameKept frame)) (slotOf (o .image) (counterOf frame) .counter)
 
 -- the counter value
-abbrev pub valueIn : Device → List ℕ → ℕ
-valueIn d frame = slotOf (d .image) (counterOf frame) .value
+abbrev pub valueIn : Outcome → List ℕ → ℕ
+valueIn o frame = slotOf (o .image) (counterOf frame) .value
 
 -- the counter's session key
-abbrev pub keyThere : Device → List ℕ → List ℕ
-keyThere d frame = sessionKey (d .state) (counterOf frame) .bytes
+abbrev pub keyIn : Outcome → List ℕ → Key
+keyIn o frame = getD (o .keys) (counterOf frame) noKey
 
--- the new session key is the HMAC of bytes 4-7 under the root key in use
-abbrev pub newKey : Device → List ℕ → List ℕ
-newKey d frame = HMAC (rootKey (d .image) (counterOf frame)) (field 4 4 (frameKept frame))
+-- the new session key is the HMAC of the key data under the root key in use
+abbrev pub newSessionKey : Outcome → List ℕ → List ℕ
+newSessionKey o frame = HMAC (rootKey (o .image) (counterOf frame)) (dataIn 1 (frameKept frame))
 
--- 00: the key sent; bytes 0-3. 01: new session key; bytes 0-7. 02: session key; bytes 0-7. 03: session key; bytes 0-15
-abbrev pub signature : Command → Device → List ℕ → List ℕ
-signature WriteRootKey d frame = HMAC (field 4 32 (frameKept frame)) (field 0 4 (frameKept frame))
-signature UpdateSessionKey d frame = HMAC (newKey d frame) (field 0 8 (frameKept frame))
-signature IncrementCounter d frame = HMAC (keyThere d frame) (field 0 8 (frameKept frame))
-signature RequestCounter d frame = HMAC (keyThere d frame) (field 0 16 (frameKept frame))
+-- the signature that a frame has to have: whose key signs, and what is signed, says the table of frames
+abbrev pub signingKey : Signer → Outcome → List ℕ → List ℕ
+signingKey KeySent o frame = dataIn 0 (frameKept frame)
+signingKey NewSessionKey o frame = newSessionKey o frame
+signingKey SessionKey o frame = keyIn o frame .bytes
 
--- checks 8 to 10 of a command: the status of the first that fails, 0 if none does
-unfoldable pub lastChecks : Command → Device → List ℕ → ℕ
-lastChecks command d frame = decision command (frameKept frame) (signature command d frame) (valueIn d frame)
+abbrev pub signature : Command → Outcome → List ℕ → List ℕ
+signature command o frame =
+    HMAC (signingKey (layoutOf (commandType command) .signer) o frame) (signedIn (commandType command) (frameKept frame))
+
+-- the status of checks 1 to 7, 0 if none fails
+unfoldable pub statusOnArrival : List ℕ → List Key → List ℕ → ℕ
+statusOnArrival image keys frame =
+    arrivalStatus frame (count image) (slotOf image (counterOf frame)) (getD keys (counterOf frame) noKey .there)
+
+-- the status of checks 8 to 10 of a command, 0 if none fails
+unfoldable pub lastStatus : Command → Outcome → List ℕ → ℕ
+lastStatus command o frame = decision command (frameKept frame) (signature command o frame) (valueIn o frame)
 
 -- checks 1 to 10
-unfoldable pub allChecks : Device → List ℕ → ℕ
-allChecks d frame = orElse (statusOnArrival (d .image) (d .state) frame) (lastChecks (commandOf (kindIn d frame)) d frame)
+abbrev pub tenChecks : Outcome → List ℕ → List (Row ℕ)
+tenChecks o frame =
+    checksOf frame (count (o .image)) (slotOf (o .image) (counterOf frame)) (keyIn o frame .there)
+    ++ lastChecksOf (commandOf (kindIn o frame)) (frameKept frame) (signature (commandOf (kindIn o frame)) o frame) (valueIn o frame)
+
+unfoldable pub allChecks : Outcome → List ℕ → ℕ
+allChecks o frame = firstFailing (tenChecks o frame)
 
 -- a check fails: its status, no reply, and nothing else
-unfoldable pub failedWith : ℕ → Device → Outcome
-failedWith status d = record { status = status; keys = d .state .keys; reply = noReply; image = d .image }
+unfoldable pub failedWith : ℕ → Outcome → Outcome
+failedWith status o = record { status = status; keys = o .keys; reply = noReply; image = o .image }
 
 -- 01: the new session key, which replaces an old one
-abbrev pub keysAfter : Command → Device → List ℕ → List Key
-keysAfter WriteRootKey d frame = d .state .keys
-keysAfter UpdateSessionKey d frame = set (d .state .keys) (counterOf frame) (record { there = true; bytes = newKey d frame })
-keysAfter IncrementCounter d frame = d .state .keys
-keysAfter RequestCounter d frame = d .state .keys
+abbrev pub keysAfter : Command → Outcome → List ℕ → List Key
+keysAfter WriteRootKey o frame = o .keys
+keysAfter UpdateSessionKey o frame = set (o .keys) (counterOf frame) (record { there = true; bytes = newSessionKey o frame })
+keysAfter IncrementCounter o frame = o .keys
+keysAfter RequestCounter o frame = o .keys
 
 -- 03: tag, counter value, and their HMAC under the session key
-abbrev pub replyAfter : Command → Device → List ℕ → Reply
-replyAfter WriteRootKey d frame = noReply
-replyAfter UpdateSessionKey d frame = noReply
-replyAfter IncrementCounter d frame = noReply
-replyAfter RequestCounter d frame =
+abbrev pub replyAfter : Command → Outcome → List ℕ → Reply
+replyAfter WriteRootKey o frame = noReply
+replyAfter UpdateSessionKey o frame = noReply
+replyAfter IncrementCounter o frame = noReply
+replyAfter RequestCounter o frame =
     record {
       there = true;
       bytes =
-          (field 4 12 (frameKept frame) ++ bytesOf (valueIn d frame))
-          ++ HMAC (keyThere d frame) (field 4 12 (frameKept frame) ++ bytesOf (valueIn d frame));
+          (dataIn 3 (frameKept frame) ++ bytesOf (valueIn o frame))
+          ++ HMAC (keyIn o frame .bytes) (dataIn 3 (frameKept frame) ++ bytesOf (valueIn o frame));
     }
 
--- 00: the key, the counter set if it was unset, root set. 02: the next value
-abbrev pub imageAfter : Kind → Device → List ℕ → List ℕ
-imageAfter kind d frame =
-    allStored (stores kind (frameKept frame) (keptAfter (commandOf kind) 0 (valueIn d frame))) (d .image) (counterOf frame)
+-- the counter value that a job keeps: for type 02 its successor, the word to store (check 10 has shut FFFFFFFFh out), for type 03 the
+-- value to report
+abbrev pub keptAfter : Command → ℕ → ℕ → ℕ
+keptAfter WriteRootKey kept value = kept
+keptAfter UpdateSessionKey kept value = kept
+keptAfter IncrementCounter kept value = (value + 1) % 2 ^ 32
+keptAfter RequestCounter kept value = value
+
+-- 00: the key, the counter set if it was unset, root set; of a key that is all FFh nothing but the counter, set if it was unset.
+-- 02: the next value. 01 and 03: nothing
+abbrev pub imageAfter : Kind → Outcome → List ℕ → List ℕ
+imageAfter kind o frame =
+    allStored (stores kind (frameKept frame) (keptAfter (commandOf kind) 0 (valueIn o frame))) (o .image) (counterOf frame)
 
 -- no check fails: 80h
-unfoldable pub carriedOut : Kind → Device → List ℕ → Outcome
-carriedOut kind d frame =
+unfoldable pub carriedOut : Kind → Outcome → List ℕ → Outcome
+carriedOut kind o frame =
     record {
       status = 0x80;
-      keys = keysAfter (commandOf kind) d frame;
-      reply = replyAfter (commandOf kind) d frame;
-      image = imageAfter kind d frame;
+      keys = keysAfter (commandOf kind) o frame;
+      reply = replyAfter (commandOf kind) o frame;
+      image = imageAfter kind o frame;
     }
 
 -- a command frame that finds the device idle, run whole
-unfoldable pub whole : Device → List ℕ → Outcome
-whole d frame = pick (eqb (allChecks d frame) 0) (carriedOut (kindIn d frame) d frame) (failedWith (allChecks d frame) d)
+unfoldable pub whole : Outcome → List ℕ → Outcome
+whole o frame = pick (eqb (allChecks o frame) 0) (carriedOut (kindIn o frame) o frame) (failedWith (allChecks o frame) o)

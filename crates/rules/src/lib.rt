@@ -1,2 +1,2 @@
-// The whole-frame rules: what a taken frame comes to once its job has run to its end. Definitions in specs/, the theorem that the
-// step machine obeys them in proofs/; no code.
+// The whole-frame page: what a command frame that finds the device idle comes to. No code, only definitions and what follows from
+// them; the machine of steps stands above it.

@@ -10,7 +10,8 @@ use Rattle.jobs.specs.declared.Command.{Command}
 use Rattle.state.specs.declared.State.{State}
 use Rattle.signing.specs.Hashed.{hashed}
 use Rattle.steps.specs.Ending.{finishedBy, withStep, isLast, advanced}
-use Rattle.steps.specs.Deciding.{keptAfter, withKept, decisionOf, decided, hashStep}
+use Rattle.steps.specs.Deciding.{withKept, decisionOf, decided, hashStep}
+use Rattle.rules.specs.Whole.{keptAfter}
 
 -- by the answer of `is_last`
 module _ (s r : State) (last : Bool) (asked : last ≡ isLast s) where

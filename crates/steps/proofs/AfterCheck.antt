@@ -9,7 +9,8 @@ use Rattle.jobs.specs.Jobs.{commandOf}
 use Rattle.state.specs.declared.State.{State}
 use Rattle.state.specs.Parts.{posted}
 use Rattle.steps.specs.Ending.{advanced}
-use Rattle.steps.specs.Deciding.{keptAfter, withKept, decisionOf, decided}
+use Rattle.steps.specs.Deciding.{withKept, decisionOf, decided}
+use Rattle.rules.specs.Whole.{keptAfter}
 
 -- the state that goes on after a check that passed
 abbrev pub passed : State → ℕ → State

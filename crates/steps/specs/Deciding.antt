@@ -1,27 +1,19 @@
 -- Document 01, "Steps": checks 8 to 10 are made in the last step of the signature check. Assumes nothing.
-use Prim.Native.Nat.{ℕ, _+_, _%_, _^_}
+use Prim.Native.Nat.{ℕ, _+_}
 use mathlib.Core.List.{List}
 use lib.Dec.{eqb}
 use Rattle.words.specs.Choice.{pick}
 use Rattle.words.specs.Words.{bytesOfAll}
 use Rattle.image.specs.Slot.{slotOf}
 use Rattle.jobs.specs.Jobs.{commandOf, signatureSteps}
-use Rattle.jobs.specs.declared.Command.{Command}
-use Rattle.jobs.specs.declared.Command.the-variants.{WriteRootKey, UpdateSessionKey, IncrementCounter, RequestCounter}
 use Rattle.decision.specs.Decision.{decision}
 use Rattle.state.specs.declared.State.{State}
 use Rattle.state.specs.Parts.{withJob, posted}
 use Rattle.signing.specs.Hashed.{hashed}
+use Rattle.rules.specs.Whole.{keptAfter}
 use Rattle.steps.specs.Ending.{advanced}
 
--- the counter value is read in step 4 and kept: for type 02 its successor, the word to store (check 10 has shut FFFFFFFFh out),
--- for type 03 the value to report
-abbrev pub keptAfter : Command → ℕ → ℕ → ℕ
-keptAfter WriteRootKey kept value = kept
-keptAfter UpdateSessionKey kept value = kept
-keptAfter IncrementCounter kept value = (value + 1) % 2 ^ 32
-keptAfter RequestCounter kept value = value
-
+-- the counter value is read in step 4, and what the command wants of it is kept
 unfoldable pub withKept : State → ℕ → State
 withKept s kept =
     withJob s

@@ -1,8 +1,10 @@
--- The laws of `pick`. Assumes nothing.
-use mathlib.Core.Path.{_≡_, refl, sym, subst}
+-- The laws of `pick` and `orElse`. Assumes nothing.
+use Prim.Native.Nat.{ℕ}
+use mathlib.Core.Path.{_≡_, refl, sym, _∙_, subst}
 use mathlib.Core.Bool.{Bool, true, false}
-use lib.Dec.{T}
-use Rattle.words.specs.Choice.{pick}
+use borrow.Author.Tests.{eqb-true, eq-eqb}
+use lib.Dec.{T, eqb}
+use Rattle.words.specs.Choice.{pick, orElse}
 
 pub never : false ≡ true → ⊥
 never e = subst T (sym e) tt
@@ -19,3 +21,12 @@ pub either :
 unfolding pick
 either P true a b f g = f refl
 either P false a b f g = g refl
+
+-- of two numbers one of which is told, both are 0 where 0 is told
+or-zero-by : (a b : ℕ) (t : Bool) → eqb a 0 ≡ t → pick t b a ≡ 0 → (a ≡ 0) × (b ≡ 0)
+unfolding pick
+or-zero-by a b true e z = (eqb-true a 0 e, z)
+or-zero-by a b false e z = absurd (never (sym e ∙ eq-eqb a 0 z))
+
+pub or-zero : (a b : ℕ) → orElse a b ≡ 0 → (a ≡ 0) × (b ≡ 0)
+or-zero a b z = or-zero-by a b _ refl z

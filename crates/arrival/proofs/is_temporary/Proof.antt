@@ -2,7 +2,7 @@
 use borrow.Author.Needs.{needs}
 use native.Mathlib.Omega.{arith}
 use Rattle.words.proofs.Fields.{field-part}
-use Rattle.arrival.specs.Arrival.{isTemporary}
+use Rattle.rules.specs.Whole.{isTemporary}
 use Rattle.arrival.proofs.is_temporary.Statement.{statement}
 use Rattle.arrival.proofs.is_temporary.Tie as tie
 

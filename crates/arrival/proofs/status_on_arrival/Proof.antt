@@ -1,6 +1,6 @@
 -- `status_on_arrival` meets its contract. Assumes nothing.
 use borrow.Author.Needs.{needs}
-use Rattle.arrival.specs.Arrival.{statusOnArrival}
+use Rattle.rules.specs.Whole.{statusOnArrival}
 use Rattle.arrival.proofs.status_on_arrival.Statement.{statement}
 use Rattle.arrival.proofs.status_on_arrival.Tie as tie
 

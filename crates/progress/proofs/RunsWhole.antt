@@ -19,20 +19,20 @@ use Rattle.jobs.specs.Jobs.{lengthOf, commandOf, longest}
 use Rattle.jobs.proofs.Longest.{at-most}
 use Rattle.jobs.specs.declared.Kind.{Kind}
 use Rattle.jobs.specs.declared.Kind.the-variants.{RootKeyAndCounter, RootKey, CounterOnly, Nothing, SessionKey, Increment, Request}
-use Rattle.checks.specs.Layout.{counterOf}
+use Rattle.frames.specs.Layout.{counterOf}
 use Rattle.state.specs.declared.State.{State}
 use Rattle.decision.specs.Decision.{decision}
 use Rattle.plan.specs.Storing.{allStored}
 use Rattle.steps.specs.Deciding.{withKept}
-use Rattle.arrival.specs.Arrival.{frameKept, statusOnArrival, jobOf, taken, arrived}
+use Rattle.arrival.specs.Arrival.{jobOf, taken, arrived}
+use Rattle.rules.specs.Whole.{frameKept, statusOnArrival, valueIn, signature, failedWith, carriedOut, kindIn, allChecks, whole, keyIn, newSessionKey, lastStatus}
 use Rattle.arrival.proofs.Arrives.{arrived-fails, arrived-starts}
 use Rattle.device.specs.Work.{Device, run}
-use Rattle.device.specs.Calls.{device}
+use Rattle.device.specs.Calls.{device, outcome}
 use Rattle.progress.proofs.Runs.{run-not-taken, run-add}
 use Rattle.progress.proofs.Hashing.{busy, begun, fourthAt, secondAt, afterFour, four-steps, four-more-steps}
-use Rattle.rules.specs.Whole.{outcome, valueIn, keyThere, newKey, signature, lastChecks, failedWith, carriedOut, kindIn, allChecks, whole}
-use Rattle.rules.proofs.Storing.{stored-all, stored-request, stored-session}
-use Rattle.rules.proofs.Ended.{ended}
+use Rattle.progress.proofs.Storing.{stored-all, stored-request, stored-session}
+use Rattle.progress.proofs.Ended.{ended}
 
 -- a message of a frame's field fits one block
 pub short : (at n : ℕ) (s : List ℕ) → n ≤ 55 → length (field at n s) ≤ 55
@@ -47,7 +47,7 @@ length-signed : (tag : List ℕ) (value : ℕ) → length (field 4 12 tag ++ byt
 length-signed tag value =
     omega (arith, length-append (field 4 12 tag) (bytesOf value), length-table (λ i. getD tag (4 + i) 0) 12)
 
-module _ (d : Device) (frame : List ℕ) (formed : length (keyThere d frame) ≡ 32) where
+module _ (d : Device) (frame : List ℕ) (formed : length (keyIn (outcome d) frame .bytes) ≡ 32) where
   abbrev sent : List ℕ
   sent = frameKept frame
 
@@ -67,28 +67,28 @@ module _ (d : Device) (frame : List ℕ) (formed : length (keyThere d frame) ≡
   abbrev Whole : Kind → Type 0
   Whole kind =
       outcome (run longest (device (d .image) (start kind))) ≡
-      pick (eqb (lastChecks (commandOf kind) d frame) 0) (carriedOut kind d frame) (failedWith (lastChecks (commandOf kind) d frame) d)
+      pick (eqb (lastStatus (commandOf kind) (outcome d) frame) 0) (carriedOut kind (outcome d) frame) (failedWith (lastStatus (commandOf kind) (outcome d) frame) (outcome d))
 
-  root-digest : bytesOfAll (digest Nothing) ≡ signature (commandOf Nothing) d frame
+  root-digest : bytesOfAll (digest Nothing) ≡ signature (commandOf Nothing) (outcome d) frame
   root-digest = fourth-hmac (field 4 32 sent) (field 0 4 sent) _ _ (length-table _ 32) (short 0 4 sent (omega arith))
 
-  increment-digest : bytesOfAll (digest Increment) ≡ signature (commandOf Increment) d frame
-  increment-digest = fourth-hmac (keyThere d frame) (field 0 8 sent) _ _ formed (short 0 8 sent (omega arith))
+  increment-digest : bytesOfAll (digest Increment) ≡ signature (commandOf Increment) (outcome d) frame
+  increment-digest = fourth-hmac (keyIn (outcome d) frame .bytes) (field 0 8 sent) _ _ formed (short 0 8 sent (omega arith))
 
-  request-digest : bytesOfAll (digest Request) ≡ signature (commandOf Request) d frame
+  request-digest : bytesOfAll (digest Request) ≡ signature (commandOf Request) (outcome d) frame
   unfolding pick
-  request-digest = fourth-hmac (keyThere d frame) (field 0 16 sent) _ _ formed (short 0 16 sent (omega arith))
+  request-digest = fourth-hmac (keyIn (outcome d) frame .bytes) (field 0 16 sent) _ _ formed (short 0 16 sent (omega arith))
 
-  key-made : bytesOfAll (digest SessionKey) ≡ newKey d frame
+  key-made : bytesOfAll (digest SessionKey) ≡ newSessionKey (outcome d) frame
   unfolding pick
   key-made = fourth-hmac root (field 4 4 sent) _ _ (length-root (d .image) (counterOf frame)) (short 4 4 sent (omega arith))
 
   -- the decision on a digest is the decision on the HMAC that it is
   same-decision :
-      (kind : Kind) (digest : List ℕ) → digest ≡ signature (commandOf kind) d frame →
-      decision (commandOf kind) sent digest (valueIn d frame) ≡ lastChecks (commandOf kind) d frame
-  unfolding lastChecks
-  same-decision kind digest e = ap (λ (g : List ℕ). decision (commandOf kind) sent g (valueIn d frame)) e
+      (kind : Kind) (digest : List ℕ) → digest ≡ signature (commandOf kind) (outcome d) frame →
+      decision (commandOf kind) sent digest (valueIn (outcome d) frame) ≡ lastStatus (commandOf kind) (outcome d) frame
+  unfolding lastStatus
+  same-decision kind digest e = ap (λ (g : List ℕ). decision (commandOf kind) sent g (valueIn (outcome d) frame)) e
 
   -- the steps of the longest job: four, then the others
   abbrev later : ℕ
@@ -113,52 +113,52 @@ module _ (d : Device) (frame : List ℕ) (formed : length (keyThere d frame) ≡
   unfolding carriedOut failedWith withKept
   whole-nothing =
       rw (all-steps Nothing, four Nothing)
-      (ended later (d .image) _ (valueIn d frame) _ _ (same-decision Nothing _ root-digest) (λ e. stored-all _ _ _ _ _ _ _ _ _ _ Nothing refl (λ s. refl) (enough Nothing)))
+      (ended later (d .image) _ (valueIn (outcome d) frame) _ _ (same-decision Nothing _ root-digest) (λ e. stored-all _ _ _ _ _ _ _ _ _ _ Nothing refl (λ s. refl) (enough Nothing)))
 
   whole-counter : Whole CounterOnly
   unfolding carriedOut failedWith withKept
   whole-counter =
       rw (all-steps CounterOnly, four CounterOnly)
-      (ended later (d .image) _ (valueIn d frame) _ _ (same-decision CounterOnly _ root-digest) (λ e. stored-all _ _ _ _ _ _ _ _ _ _ CounterOnly refl (λ s. refl) (enough CounterOnly)))
+      (ended later (d .image) _ (valueIn (outcome d) frame) _ _ (same-decision CounterOnly _ root-digest) (λ e. stored-all _ _ _ _ _ _ _ _ _ _ CounterOnly refl (λ s. refl) (enough CounterOnly)))
 
   whole-root : Whole RootKey
   unfolding carriedOut failedWith withKept
   whole-root =
       rw (all-steps RootKey, four RootKey)
-      (ended later (d .image) _ (valueIn d frame) _ _ (same-decision RootKey _ root-digest) (λ e. stored-all _ _ _ _ _ _ _ _ _ _ RootKey refl (λ s. refl) (enough RootKey)))
+      (ended later (d .image) _ (valueIn (outcome d) frame) _ _ (same-decision RootKey _ root-digest) (λ e. stored-all _ _ _ _ _ _ _ _ _ _ RootKey refl (λ s. refl) (enough RootKey)))
 
   whole-root-and-counter : Whole RootKeyAndCounter
   unfolding carriedOut failedWith withKept
   whole-root-and-counter =
       rw (all-steps RootKeyAndCounter, four RootKeyAndCounter)
-      (ended later (d .image) _ (valueIn d frame) _ _ (same-decision RootKeyAndCounter _ root-digest)
+      (ended later (d .image) _ (valueIn (outcome d) frame) _ _ (same-decision RootKeyAndCounter _ root-digest)
       (λ e. stored-all _ _ _ _ _ _ _ _ _ _ RootKeyAndCounter refl (λ s. refl) (enough RootKeyAndCounter)))
 
   whole-increment : Whole Increment
   unfolding carriedOut failedWith withKept
   whole-increment =
       rw (all-steps Increment, four Increment)
-      (ended later (d .image) _ (valueIn d frame) _ _ (same-decision Increment _ increment-digest) (λ e. stored-all _ _ _ _ _ _ _ _ _ _ Increment refl (λ s. refl) (enough Increment)))
+      (ended later (d .image) _ (valueIn (outcome d) frame) _ _ (same-decision Increment _ increment-digest) (λ e. stored-all _ _ _ _ _ _ _ _ _ _ Increment refl (λ s. refl) (enough Increment)))
 
   reply-signed :
       (chain inner : List ℕ) →
-      bytesOfAll (fourth (keyThere d frame) (field 4 12 sent ++ bytesOf (valueIn d frame)) chain inner) ≡
-      HMAC (keyThere d frame) (field 4 12 sent ++ bytesOf (valueIn d frame))
-  reply-signed chain inner = fourth-hmac (keyThere d frame) _ chain inner formed (length-signed sent (valueIn d frame))
+      bytesOfAll (fourth (keyIn (outcome d) frame .bytes) (field 4 12 sent ++ bytesOf (valueIn (outcome d) frame)) chain inner) ≡
+      HMAC (keyIn (outcome d) frame .bytes) (field 4 12 sent ++ bytesOf (valueIn (outcome d) frame))
+  reply-signed chain inner = fourth-hmac (keyIn (outcome d) frame .bytes) _ chain inner formed (length-signed sent (valueIn (outcome d) frame))
 
   whole-request : Whole Request
   unfolding carriedOut failedWith withKept allStored
   whole-request =
       rw (all-steps Request, four Request)
-      (ended later (d .image) _ (valueIn d frame) _ _ (same-decision Request _ request-digest)
+      (ended later (d .image) _ (valueIn (outcome d) frame) _ _ (same-decision Request _ request-digest)
       (λ e. rw (← reply-signed (digest Request) (inner Request)) (stored-request _ _ _ _ _ _ _ _ _ _ (enough Request))))
 
   -- a session key job from its fifth step on, with the key that it made
   session-ended :
-      (chain inner made : List ℕ) → length made ≡ 32 → made ≡ newKey d frame →
+      (chain inner made : List ℕ) → length made ≡ 32 → made ≡ newSessionKey (outcome d) frame →
       outcome (run later (device (d .image) (busy SessionKey (d .state .keys) (counterOf frame) sent root 4 chain made inner 0))) ≡
-      pick (eqb (lastChecks (commandOf SessionKey) d frame) 0) (carriedOut SessionKey d frame)
-      (failedWith (lastChecks (commandOf SessionKey) d frame) d)
+      pick (eqb (lastStatus (commandOf SessionKey) (outcome d) frame) 0) (carriedOut SessionKey (outcome d) frame)
+      (failedWith (lastStatus (commandOf SessionKey) (outcome d) frame) (outcome d))
   unfolding carriedOut failedWith withKept allStored
   session-ended chain inner made size e =
       let signed = fourth-hmac made (field 0 8 sent) chain inner size (short 0 8 sent (omega arith)) in
@@ -168,7 +168,7 @@ module _ (d : Device) (frame : List ℕ) (formed : length (keyThere d frame) ≡
         run-add (later - 4) 4 (device (d .image) (busy SessionKey (d .state .keys) (counterOf frame) sent root 4 chain made inner 0)),
         four-more-steps (d .image) (d .state .keys) (counterOf frame) sent root chain made inner 0,
       )
-      (ended (later - 4) (d .image) _ (valueIn d frame) _ _
+      (ended (later - 4) (d .image) _ (valueIn (outcome d) frame) _ _
       (same-decision SessionKey _ (signed ∙ ap (λ (key : List ℕ). HMAC key (field 0 8 sent)) e))
       (λ _. rw (← e) (stored-session _ _ _ _ _ _ _ _ _ _)))
 
@@ -187,18 +187,18 @@ module _ (d : Device) (frame : List ℕ) (formed : length (keyThere d frame) ≡
   whole-kind Request = whole-request
 
 runs-by :
-    (d : Device) (frame : List ℕ) → d .state .job .there ≡ false → length (keyThere d frame) ≡ 32 →
-    (b : Bool) → eqb (statusOnArrival (d .image) (d .state) frame) 0 ≡ b →
-    outcome (run longest (device (d .image) (arrived (d .image) (d .state) frame))) ≡ whole d frame
+    (d : Device) (frame : List ℕ) → d .state .job .there ≡ false → length (keyIn (outcome d) frame .bytes) ≡ 32 →
+    (b : Bool) → eqb (statusOnArrival (d .image) (d .state .keys) frame) 0 ≡ b →
+    outcome (run longest (device (d .image) (arrived (d .image) (d .state) frame))) ≡ whole (outcome d) frame
 unfolding whole allChecks taken jobOf pick failedWith
 runs-by d frame idle formed true e =
-    rw (arrived-starts (d .image) (d .state) frame e, e) (whole-kind d frame formed (kindIn d frame))
+    rw (arrived-starts (d .image) (d .state) frame e, e) (whole-kind d frame formed (kindIn (outcome d) frame))
 runs-by d frame idle formed false e =
-    rw (arrived-fails (d .image) (d .state) frame e, run-not-taken longest d (statusOnArrival (d .image) (d .state) frame) idle, e, e)
+    rw (arrived-fails (d .image) (d .state) frame e, run-not-taken longest d (statusOnArrival (d .image) (d .state .keys) frame) idle, e, e)
 
 -- A command frame that finds the device idle, and the steps after it, at most those of the longest job, come to what the page says. A session key
 -- has 32 bytes in every state of the type.
 pub runs-whole :
-    (d : Device) (frame : List ℕ) → d .state .job .there ≡ false → length (keyThere d frame) ≡ 32 →
-    outcome (run longest (device (d .image) (arrived (d .image) (d .state) frame))) ≡ whole d frame
-runs-whole d frame idle formed = runs-by d frame idle formed _ refl
+    (d : Device) (frame : List ℕ) → d .state .job .there ≡ false → length (keyIn (outcome d) frame .bytes) ≡ 32 →
+    outcome (run longest (device (d .image) (arrived (d .image) (d .state) frame))) ≡ whole (outcome d) frame
+runs-whole (outcome d) frame idle formed = runs-by d frame idle formed _ refl

@@ -10,9 +10,9 @@ use Rattle.state.specs.Parts.{posted}
 use Rattle.steps.specs.Deciding.{decisionOf, decided}
 use Rattle.steps.proofs.AfterCheck.{passed, decided-good, decided-bad}
 use Rattle.device.specs.Work.{run}
-use Rattle.device.specs.Calls.{device}
+use Rattle.device.specs.Calls.{device, outcome}
 use Rattle.progress.proofs.Runs.{run-posted}
-use Rattle.rules.specs.Whole.{Outcome, outcome}
+use Rattle.rules.specs.Whole.{Outcome}
 
 ended-by :
     (n : ℕ) (image : List ℕ) (s : State) (value v : ℕ) (good : Outcome) → decisionOf s value ≡ v →

@@ -26,11 +26,11 @@ use Rattle.steps.specs.Ending.{withKey, withReply, withStep, finishedBy, advanc
 use Rattle.steps.specs.Deciding.{hashStep}
 use Rattle.steps.specs.Step.{stepState, stepImage}
 use Rattle.device.specs.Work.{Device, stepped, run}
-use Rattle.device.specs.Calls.{device}
+use Rattle.device.specs.Calls.{device, outcome}
 use Rattle.progress.proofs.Runs.{run-idle, run-add}
 use Rattle.progress.proofs.Hashing.{busy}
 use Rattle.progress.proofs.Stores.{all-made}
-use Rattle.rules.specs.Whole.{Outcome, outcome}
+use Rattle.rules.specs.Whole.{Outcome}
 
 module _ (image : List ℕ) (keys : List Key) (counter : ℕ) (frame root chain made inner : List ℕ) (kept : ℕ) (n : ℕ) where
   abbrev checked : Kind → ℕ → Device
