@@ -25,7 +25,8 @@ use Rattle.decision.specs.Decision.{decision}
 use Rattle.plan.specs.Storing.{allStored}
 use Rattle.steps.specs.Deciding.{withKept}
 use Rattle.arrival.specs.Arrival.{jobOf, taken, arrived}
-use Rattle.rules.specs.Whole.{frameKept, statusOnArrival, valueIn, signature, failedWith, carriedOut, kindIn, allChecks, whole, keyIn, newSessionKey, lastStatus}
+use Rattle.rules.specs.Whole.{frameKept, statusOnArrival, valueIn, signature, failedWith, carriedOut, kindIn, whole, keyIn, newSessionKey, lastStatus}
+use Rattle.rules.proofs.TenChecks.{all-checks}
 use Rattle.arrival.proofs.Arrives.{arrived-fails, arrived-starts}
 use Rattle.device.specs.Work.{Device, run}
 use Rattle.device.specs.Calls.{device, outcome}
@@ -190,15 +191,21 @@ runs-by :
     (d : Device) (frame : List ℕ) → d .state .job .there ≡ false → length (keyIn (outcome d) frame .bytes) ≡ 32 →
     (b : Bool) → eqb (statusOnArrival (d .image) (d .state .keys) frame) 0 ≡ b →
     outcome (run longest (device (d .image) (arrived (d .image) (d .state) frame))) ≡ whole (outcome d) frame
-unfolding whole allChecks taken jobOf pick failedWith
+unfolding whole taken jobOf pick failedWith
 runs-by d frame idle formed true e =
-    rw (arrived-starts (d .image) (d .state) frame e, e) (whole-kind d frame formed (kindIn (outcome d) frame))
+    rw (arrived-starts (d .image) (d .state) frame e, all-checks (outcome d) frame, e) (whole-kind d frame formed (kindIn (outcome d) frame))
 runs-by d frame idle formed false e =
-    rw (arrived-fails (d .image) (d .state) frame e, run-not-taken longest d (statusOnArrival (d .image) (d .state .keys) frame) idle, e, e)
+    rw (
+      arrived-fails (d .image) (d .state) frame e,
+      run-not-taken longest d (statusOnArrival (d .image) (d .state .keys) frame) idle,
+      all-checks (outcome d) frame,
+      e,
+      e,
+    )
 
 -- A command frame that finds the device idle, and the steps after it, at most those of the longest job, come to what the page says. A session key
 -- has 32 bytes in every state of the type.
 pub runs-whole :
     (d : Device) (frame : List ℕ) → d .state .job .there ≡ false → length (keyIn (outcome d) frame .bytes) ≡ 32 →
     outcome (run longest (device (d .image) (arrived (d .image) (d .state) frame))) ≡ whole (outcome d) frame
-runs-whole (outcome d) frame idle formed = runs-by d frame idle formed _ refl
+runs-whole d frame idle formed = runs-by d frame idle formed _ refl
