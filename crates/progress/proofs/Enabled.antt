@@ -1,4 +1,5 @@
--- Reset-enable makes no difference to a step, and a step none to it. Assumes nothing.
+-- Reset-enable makes no difference to a step, and a step none to it: no part of a step looks at it, and each hands it on. Assumes
+-- nothing.
 use Prim.Native.Nat.{ℕ, zero, suc, _+_}
 use mathlib.Core.Path.{_≡_, refl, ap, _∙_}
 use mathlib.Core.Bool.{Bool, true, false}

@@ -10,10 +10,12 @@ use Rattle.words.specs.Choice.{pick}
 use Rattle.words.proofs.Choice.{never, either}
 use Rattle.jobs.specs.Jobs.{longest}
 use Rattle.jobs.proofs.Longest.{at-most}
-use Rattle.state.specs.Refusal.{isRunning}
+use Rattle.state.specs.Refusal.{isRunning, deviceRefusal}
 use Rattle.state.proofs.Running.{step-left}
 use Rattle.steps.specs.Step.{stepState}
 use Rattle.device.specs.Work.{Device, stepped, run, within, stepsLeft, stepsDone}
+use Rattle.device.specs.Calls.{Work, After, called}
+use Rattle.device.proofs.AfterCalls.{work-accepted}
 use Rattle.device.proofs.Ends.{rest, step-less, bound-runs}
 use Rattle.progress.proofs.Runs.{stepped-idle, run-idle, run-add}
 
@@ -111,3 +113,7 @@ quota-by n d false l =
 
 pub work-quota : (n : ℕ) (d : Device) → run (stepsDone n d) d ≡ run n d
 work-quota n d = quota-by n d _ refl
+
+-- so a work call that is not refused does n steps
+pub work-runs : (n : ℕ) (d : Device) → deviceRefusal (d .image) (d .state) ≡ 0 → called (Work n) d ≡ run n d
+work-runs n d accepted = ap (λ (r : After). r .device) (work-accepted d n accepted) ∙ work-quota n d

@@ -19,10 +19,10 @@ use Rattle.plan.specs.Stores.{stores}
 use Rattle.plan.specs.Storing.{allStored}
 use Rattle.plan.proofs.Plans.{plan-length}
 use Rattle.steps.specs.Step.{isHash, stepState, stepImage}
-use Rattle.steps.proofs.Keeps.{Keeps, step-keeps, step-image}
+use Rattle.steps.proofs.Keeps.{Keeps, step-keeps}
+use Rattle.steps.proofs.StoreSteps.{step-image, one-more}
 use Rattle.device.specs.Work.{Device, stepped, run}
 use Rattle.progress.proofs.Runs.{stepped-idle}
-use Rattle.progress.proofs.Stores.{one-more}
 
 -- a job of a kind, for a counter and a frame, after n steps on an image
 pub record At (kind : Kind) (c : ℕ) (frame image : List ℕ) (n : ℕ) (now : List ℕ) (s : State) : Type 0 where

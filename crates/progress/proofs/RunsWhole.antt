@@ -15,23 +15,25 @@ use Rattle.hmac.specs.Hmac.{HMAC}
 use Rattle.hmac.proofs.FourBlocks.{fourth, fourth-hmac}
 use Rattle.hmac.proofs.Lengths.{length-HMAC}
 use Rattle.image.specs.Slot.{rootKey}
-use Rattle.jobs.specs.Jobs.{lengthOf, commandOf, longest}
+use Rattle.jobs.specs.Jobs.{lengthOf, commandOf, hashSteps, longest}
 use Rattle.jobs.proofs.Longest.{at-most}
 use Rattle.jobs.specs.declared.Kind.{Kind}
 use Rattle.jobs.specs.declared.Kind.the-variants.{RootKeyAndCounter, RootKey, CounterOnly, Nothing, SessionKey, Increment, Request}
 use Rattle.frames.specs.Layout.{counterOf}
 use Rattle.state.specs.declared.State.{State}
+use Rattle.state.specs.Parts.{noReply, posted}
 use Rattle.decision.specs.Decision.{decision}
 use Rattle.plan.specs.Storing.{allStored}
-use Rattle.steps.specs.Deciding.{withKept}
+use Rattle.steps.specs.Ending.{finishedBy}
+use Rattle.steps.specs.Deciding.{withKept, decided}
 use Rattle.arrival.specs.Arrival.{jobOf, taken, arrived}
-use Rattle.rules.specs.Whole.{frameKept, statusOnArrival, valueIn, signature, failedWith, carriedOut, kindIn, whole, keyIn, newSessionKey, lastStatus}
+use Rattle.rules.specs.Whole.{frameKept, statusOnArrival, valueIn, signature, failedWith, keysAfter, replyAfter, carriedOut, kindIn, allChecks, whole, keyIn, newSessionKey, lastStatus}
 use Rattle.rules.proofs.TenChecks.{all-checks}
 use Rattle.arrival.proofs.Arrives.{arrived-fails, arrived-starts}
 use Rattle.device.specs.Work.{Device, run}
 use Rattle.device.specs.Calls.{device, outcome}
 use Rattle.progress.proofs.Runs.{run-not-taken, run-add}
-use Rattle.progress.proofs.Hashing.{busy, begun, fourthAt, secondAt, afterFour, four-steps, four-more-steps}
+use Rattle.progress.proofs.Hashing.{busy, begun, fourthAt, secondAt, hashedAt, afterFour, four-steps, four-more-steps}
 use Rattle.progress.proofs.Storing.{stored-all, stored-request, stored-session}
 use Rattle.progress.proofs.Ended.{ended}
 
@@ -60,6 +62,10 @@ module _ (d : Device) (frame : List ℕ) (formed : length (keyIn (outcome d) fra
 
   abbrev digest : Kind → List ℕ
   digest kind = fourthAt (d .image) (d .state .keys) (counterOf frame) sent root (d .state .chain) (replicate 32 0) (replicate 8 0) 0 kind
+
+  -- with the digest to be checked
+  abbrev hashed : Kind → State
+  hashed kind = hashedAt (d .image) (d .state .keys) (counterOf frame) sent root (d .state .chain) (replicate 32 0) (replicate 8 0) 0 kind
 
   abbrev inner : Kind → List ℕ
   inner kind = secondAt (d .image) (d .state .keys) (counterOf frame) sent root (d .state .chain) (replicate 32 0) (replicate 8 0) 0 kind
@@ -110,36 +116,17 @@ module _ (d : Device) (frame : List ℕ) (formed : length (keyIn (outcome d) fra
       (afterFour (d .image) (d .state .keys) (counterOf frame) sent root (d .state .chain) (replicate 32 0) (replicate 8 0) 0 kind)
   four kind = four-steps (d .image) (d .state .keys) (counterOf frame) sent root (d .state .chain) (replicate 32 0) (replicate 8 0) 0 kind
 
-  whole-nothing : Whole Nothing
+  -- a command that ends with its stores
+  whole-storing :
+      (kind : Kind) → hashSteps (commandOf kind) ≡ 4 → ((s : State) → finishedBy (commandOf kind) s ≡ posted s 0x80) →
+      run 4 (device (d .image) (start kind)) ≡ device (d .image) (decided (hashed kind) (valueIn (outcome d) frame)) →
+      bytesOfAll (digest kind) ≡ signature (commandOf kind) (outcome d) frame → keysAfter (commandOf kind) (outcome d) frame ≡ d .state .keys →
+      replyAfter (commandOf kind) (outcome d) frame ≡ noReply → Whole kind
   unfolding carriedOut failedWith withKept
-  whole-nothing =
-      rw (all-steps Nothing, four Nothing)
-      (ended later (d .image) _ (valueIn (outcome d) frame) _ _ (same-decision Nothing _ root-digest) (λ e. stored-all _ _ _ _ _ _ _ _ _ _ Nothing refl (λ s. refl) (enough Nothing)))
-
-  whole-counter : Whole CounterOnly
-  unfolding carriedOut failedWith withKept
-  whole-counter =
-      rw (all-steps CounterOnly, four CounterOnly)
-      (ended later (d .image) _ (valueIn (outcome d) frame) _ _ (same-decision CounterOnly _ root-digest) (λ e. stored-all _ _ _ _ _ _ _ _ _ _ CounterOnly refl (λ s. refl) (enough CounterOnly)))
-
-  whole-root : Whole RootKey
-  unfolding carriedOut failedWith withKept
-  whole-root =
-      rw (all-steps RootKey, four RootKey)
-      (ended later (d .image) _ (valueIn (outcome d) frame) _ _ (same-decision RootKey _ root-digest) (λ e. stored-all _ _ _ _ _ _ _ _ _ _ RootKey refl (λ s. refl) (enough RootKey)))
-
-  whole-root-and-counter : Whole RootKeyAndCounter
-  unfolding carriedOut failedWith withKept
-  whole-root-and-counter =
-      rw (all-steps RootKeyAndCounter, four RootKeyAndCounter)
-      (ended later (d .image) _ (valueIn (outcome d) frame) _ _ (same-decision RootKeyAndCounter _ root-digest)
-      (λ e. stored-all _ _ _ _ _ _ _ _ _ _ RootKeyAndCounter refl (λ s. refl) (enough RootKeyAndCounter)))
-
-  whole-increment : Whole Increment
-  unfolding carriedOut failedWith withKept
-  whole-increment =
-      rw (all-steps Increment, four Increment)
-      (ended later (d .image) _ (valueIn (outcome d) frame) _ _ (same-decision Increment _ increment-digest) (λ e. stored-all _ _ _ _ _ _ _ _ _ _ Increment refl (λ s. refl) (enough Increment)))
+  whole-storing kind blocks ends checks signed keys reply =
+      rw (all-steps kind, checks)
+      (ended later (d .image) _ (valueIn (outcome d) frame) _ _ (same-decision kind _ signed)
+      (λ e. rw (keys, reply) (stored-all _ _ _ _ _ _ _ _ _ _ kind blocks ends (enough kind))))
 
   reply-signed :
       (chain inner : List ℕ) →
@@ -179,12 +166,12 @@ module _ (d : Device) (frame : List ℕ) (formed : length (keyIn (outcome d) fra
       (session-ended (digest SessionKey) (inner SessionKey) (bytesOfAll (digest SessionKey)) (ap length key-made ∙ length-HMAC _ _) key-made)
 
   whole-kind : (kind : Kind) → Whole kind
-  whole-kind RootKeyAndCounter = whole-root-and-counter
-  whole-kind RootKey = whole-root
-  whole-kind CounterOnly = whole-counter
-  whole-kind Nothing = whole-nothing
+  whole-kind RootKeyAndCounter = whole-storing RootKeyAndCounter refl (λ s. refl) (four RootKeyAndCounter) root-digest refl refl
+  whole-kind RootKey = whole-storing RootKey refl (λ s. refl) (four RootKey) root-digest refl refl
+  whole-kind CounterOnly = whole-storing CounterOnly refl (λ s. refl) (four CounterOnly) root-digest refl refl
+  whole-kind Nothing = whole-storing Nothing refl (λ s. refl) (four Nothing) root-digest refl refl
   whole-kind SessionKey = whole-session
-  whole-kind Increment = whole-increment
+  whole-kind Increment = whole-storing Increment refl (λ s. refl) (four Increment) increment-digest refl refl
   whole-kind Request = whole-request
 
 runs-by :

@@ -1,6 +1,6 @@
 -- The steps after the blocks make the plan's stores, one each and in order, and the last of them ends the job. By one induction over
--- the stores made: a step that is no block makes the store of its number, and goes on or ends. A job without stores has ended at once.
--- Assumes nothing.
+-- the stores made: each step makes the store of its number, and goes on or ends. A job without stores has ended at once. Assumes
+-- nothing.
 use Prim.Native.Nat.{ℕ, zero, suc, _+_, _-_, _≤_, _<_}
 use mathlib.Core.Path.{_≡_, refl, ap, ap₂, _∙_}
 use mathlib.Core.Bool.{true, false}
@@ -11,49 +11,20 @@ use lib.ListN.{length, take}
 use lib.Seq.{take-length}
 use Rattle.words.specs.Choice.{pick}
 use Rattle.jobs.specs.Jobs.{lengthOf, commandOf, hashSteps}
-use Rattle.jobs.specs.declared.Kind.{Kind}
 use Rattle.jobs.specs.declared.Command.{Command}
-use Rattle.jobs.specs.declared.Command.the-variants.{WriteRootKey, UpdateSessionKey, IncrementCounter, RequestCounter}
 use Rattle.state.specs.declared.State.{State}
 use Rattle.state.specs.Refusal.{isRunning}
 use Rattle.plan.specs.declared.Store.{Store}
-use Rattle.plan.specs.Stores.{stores, storeOf}
+use Rattle.plan.specs.Stores.{stores}
 use Rattle.plan.specs.Storing.{allStored}
-use Rattle.plan.proofs.Plans.{plan-length, stored-more}
-use Rattle.steps.specs.Ending.{withKey, withReply, withStep, isLast, finishedBy, advanced}
+use Rattle.plan.proofs.Plans.{plan-length}
+use Rattle.steps.specs.Ending.{withStep, finishedBy, advanced}
 use Rattle.steps.specs.Step.{isHash, stepImage}
-use Rattle.steps.proofs.Keeps.{store-state, store-image}
+use Rattle.steps.proofs.Advancing.{on-from, end-from, finished-idle}
+use Rattle.steps.proofs.StoreSteps.{store-state, one-more}
 use Rattle.device.specs.Work.{stepped, run}
 use Rattle.device.specs.Calls.{device}
 use Rattle.progress.proofs.Runs.{run-idle, run-add}
-
--- a job that has ended does not run
-finished-idle : (command : Command) (s : State) → isRunning (finishedBy command s) ≡ false
-unfolding isRunning withKey withReply pick
-finished-idle WriteRootKey s = refl
-finished-idle UpdateSessionKey s = refl
-finished-idle IncrementCounter s = refl
-finished-idle RequestCounter s = refl
-
-on-from : (s : State) → isLast s ≡ false → advanced s ≡ withStep s (s .job .step + 1)
-unfolding advanced pick
-on-from s e = rw e
-
-end-from : (s : State) → isLast s ≡ true → advanced s ≡ finishedBy (commandOf (s .job .kind)) s
-unfolding advanced pick
-end-from s e = rw e
-
--- a step that is no block makes the store of its number: the stores so far are one more
-pub one-more :
-    (kind : Kind) (c : ℕ) (frame image now : List ℕ) (s : State) (j : ℕ) → s .job .kind ≡ kind → s .job .counter ≡ c →
-    s .job .frame ≡ frame → s .job .step ≡ hashSteps (commandOf kind) + j → isRunning s ≡ true → isHash (s .job) ≡ false →
-    j < length (stores kind frame (s .job .kept)) → now ≡ allStored (take j (stores kind frame (s .job .kept))) image c →
-    stepImage now s ≡ allStored (take (suc j) (stores kind frame (s .job .kept))) image c
-unfolding storeOf
-one-more kind c frame image now s j is-kind is-counter is-frame is-step runs no-block left so-far =
-    let place : hashSteps (commandOf kind) + j - hashSteps (commandOf kind) ≡ j = omega arith in
-    store-image now s runs no-block
-    ∙ rw (stored-more (stores kind frame (s .job .kept)) j image c left, ← so-far, is-counter, is-kind, is-frame, is-step, place)
 
 -- a state with a job that is in its blocks until step p is done
 module _ (s : State) (p : ℕ) (there : s .job .there ≡ true) (blocks : hashSteps (commandOf (s .job .kind)) ≡ p + 1) where

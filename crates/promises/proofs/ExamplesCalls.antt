@@ -15,12 +15,12 @@ use Rattle.device.specs.Frame.{withEnabled, stateAfter}
 use Rattle.device.specs.Work.{Device, run}
 use Rattle.device.specs.Calls.{device, After, Frame, Work, called, outcome}
 use Rattle.progress.proofs.Enabled.{enabledAs}
-use Rattle.progress.proofs.Ends.{work-quota}
+use Rattle.progress.proofs.Ends.{work-runs}
 use Rattle.promises.specs.Orders.{allCalled}
 use Rattle.promises.specs.Account.{Account, accounted}
 use Rattle.promises.specs.Examples.{Example, Ready, Given, script, Seen}
 use Rattle.promises.proofs.Sound.{started, Sound, rest-sound}
-use Rattle.promises.proofs.FirstHalf.{frame-done, work-done, next, same-device}
+use Rattle.promises.proofs.FirstHalf.{not-refused, frame-done, next, same-device}
 
 -- given what a row says, and called as it says, a device shows what it says
 abbrev pub Holds : Example → Device → List ℕ → List ℕ → Type 0
@@ -69,5 +69,5 @@ module _ (d : Device) (ready : Ready d) (output : List ℕ) where
     work-called n =
         let taken = accounted (Frame frame output) rested in
         let same = same-device (Frame frame output) rested in
-        ap (called (Work n)) (sym same) ∙ ap (λ (r : After). r .device) (work-done taken (next (Frame frame output) rested sound) n) ∙ work-quota n (taken .device)
+        ap (called (Work n)) (sym same) ∙ work-runs n (taken .device) (not-refused taken (next (Frame frame output) rested sound))
         ∙ ap (run n) (same ∙ command-called)

@@ -1,15 +1,17 @@
 -- One more step is done: the job's last, or not; after a block, and after the checks of a signature. Assumes nothing.
 use Prim.Native.Nat.{ℕ, _+_}
-use mathlib.Core.Path.{_≡_, sym, _∙_}
+use mathlib.Core.Path.{_≡_, refl, sym, _∙_}
 use mathlib.Core.Bool.{Bool, true, false}
 use mathlib.Core.List.{List}
 use borrow.Author.Tests.{eq-eqb, ne-eqb}
 use Rattle.words.specs.Choice.{pick}
 use Rattle.jobs.specs.Jobs.{commandOf, signatureSteps}
 use Rattle.jobs.specs.declared.Command.{Command}
+use Rattle.jobs.specs.declared.Command.the-variants.{WriteRootKey, UpdateSessionKey, IncrementCounter, RequestCounter}
 use Rattle.state.specs.declared.State.{State}
+use Rattle.state.specs.Refusal.{isRunning}
 use Rattle.signing.specs.Hashed.{hashed}
-use Rattle.steps.specs.Ending.{finishedBy, withStep, isLast, advanced}
+use Rattle.steps.specs.Ending.{withKey, withReply, finishedBy, withStep, isLast, advanced}
 use Rattle.steps.specs.Deciding.{withKept, decisionOf, decided, hashStep}
 use Rattle.rules.specs.Whole.{keptAfter}
 
@@ -39,3 +41,20 @@ pub hashed-on :
 unfolding hashStep pick
 hashed-on image s t r command steps h c k apart done =
     rw (← h, ← c, ← k, ne-eqb (s .job .step + 1) steps apart) done
+
+-- a job that has ended does not run
+pub finished-idle : (command : Command) (s : State) → isRunning (finishedBy command s) ≡ false
+unfolding isRunning withKey withReply pick
+finished-idle WriteRootKey s = refl
+finished-idle UpdateSessionKey s = refl
+finished-idle IncrementCounter s = refl
+finished-idle RequestCounter s = refl
+
+-- one more step, by whether it is the job's last
+pub on-from : (s : State) → isLast s ≡ false → advanced s ≡ withStep s (s .job .step + 1)
+unfolding advanced pick
+on-from s e = rw e
+
+pub end-from : (s : State) → isLast s ≡ true → advanced s ≡ finishedBy (commandOf (s .job .kind)) s
+unfolding advanced pick
+end-from s e = rw e

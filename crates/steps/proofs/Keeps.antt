@@ -11,11 +11,10 @@ use Rattle.jobs.specs.declared.Command.{Command}
 use Rattle.jobs.specs.declared.Command.the-variants.{WriteRootKey, UpdateSessionKey, IncrementCounter, RequestCounter}
 use Rattle.state.specs.declared.State.{State}
 use Rattle.state.specs.Refusal.{isRunning}
-use Rattle.plan.specs.Storing.{stored}
 use Rattle.signing.specs.Hashed.{withBlock, hashed}
 use Rattle.steps.specs.Ending.{withKey, withReply, withStep, isLast, finishedBy, advanced}
 use Rattle.steps.specs.Deciding.{withKept, decided, hashStep}
-use Rattle.steps.specs.Step.{isHash, storeNow, stepState, stepImage}
+use Rattle.steps.specs.Step.{isHash, stepState}
 
 -- a step keeps the job, but for its step number, and for the kept word until the stores begin
 pub record Keeps (s t : State) : Type 0 where
@@ -77,17 +76,3 @@ hash-keeps image s hashing = either (Going s) _ _ _ (λ _. decided-keeps s _ has
 pub step-keeps : (image : List ℕ) (s : State) → isRunning s ≡ true → Going s (stepState image s)
 unfolding stepState pick
 step-keeps image s runs = rw runs (either (Going s) (isHash (s .job)) _ _ (λ h. hash-keeps image s h) (λ _. store-keeps s))
-
--- the image after a step: as it was, or with one store more
-pub step-image : (image : List ℕ) (s : State) → isRunning s ≡ true → stepImage image s ≡ pick (isHash (s .job)) image (stored image (s .job .counter) (storeNow (s .job)))
-unfolding stepImage pick
-step-image image s runs = rw runs
-
--- a step that is no block stores a word, and no more
-pub store-image : (image : List ℕ) (s : State) → isRunning s ≡ true → isHash (s .job) ≡ false → stepImage image s ≡ stored image (s .job .counter) (storeNow (s .job))
-unfolding stepImage pick
-store-image image s runs no-block = rw (runs, no-block)
-
-pub store-state : (image : List ℕ) (s : State) → isRunning s ≡ true → isHash (s .job) ≡ false → stepState image s ≡ advanced s
-unfolding stepState pick
-store-state image s runs no-block = rw (runs, no-block)

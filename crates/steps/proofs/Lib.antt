@@ -1,5 +1,6 @@
--- The laws of one more step, what a step keeps of a job, and that each public function has one answer only.
+-- The laws of one more step, what a step keeps of a job, what a step stores, and that each public function has one answer only.
 pub mod Advancing
 pub mod AfterCheck
 pub mod Keeps
+pub mod StoreSteps
 pub mod OneAnswer
