@@ -17,16 +17,14 @@ use Rattle.jobs.specs.declared.Kind.the-variants.{RootKeyAndCounter, RootKey, C
 use Rattle.frames.specs.Layout.{counterOf}
 use Rattle.state.specs.declared.Key.{Key}
 use Rattle.state.specs.Parts.{noKey}
-use Rattle.rules.specs.Whole.{statusOnArrival, kindIn, failedWith, keysAfter, carriedOut, whole, newSessionKey}
-use Rattle.device.specs.Work.{Device}
-use Rattle.device.specs.Calls.{outcome}
+use Rattle.rules.specs.Whole.{Outcome, statusOnArrival, kindIn, failedWith, keysAfter, carriedOut, whole, newSessionKey}
 use Rattle.rules.proofs.Taken.{below-count, one-end}
 use Rattle.promises.specs.Compared.{counterIn, Alike}
 use Rattle.promises.proofs.Own.{SameTo}
 use Rattle.promises.specs.Formed.{Formed}
 use Rattle.promises.proofs.WholeOwn.{Kept, whole-kept, SameBy, whole-same}
 
-module _ (d : Device) (frame : List ℕ) (formed : Formed (d .image) (d .state .keys)) where
+module _ (d : Outcome) (frame : List ℕ) (formed : Formed (d .image) (d .keys)) where
   abbrev c : ℕ
   c = counterOf frame
 
@@ -35,14 +33,14 @@ module _ (d : Device) (frame : List ℕ) (formed : Formed (d .image) (d .state .
   long-new = length-HMAC _ _
 
   long-own :
-      (kind : Kind) → statusOnArrival (d .image) (d .state .keys) frame ≡ 0 → length (getD (keysAfter (commandOf kind) d frame) c noKey .bytes) ≡ 32
+      (kind : Kind) → statusOnArrival (d .image) (d .keys) frame ≡ 0 → length (getD (keysAfter (commandOf kind) d frame) c noKey .bytes) ≡ 32
   long-own RootKeyAndCounter passed = formed .long c
   long-own RootKey passed = formed .long c
   long-own CounterOnly passed = formed .long c
   long-own Nothing passed = formed .long c
   long-own SessionKey passed =
-      let place : c < length (d .state .keys) = omega (arith, formed .four, below-count d frame passed, formed .laid .few) in
-      rw (getD-set-same (d .state .keys) c (record { there = true; bytes = newSessionKey d frame }) noKey place) long-new
+      let place : c < length (d .keys) = omega (arith, formed .four, below-count d frame passed, formed .laid .few) in
+      rw (getD-set-same (d .keys) c (record { there = true; bytes = newSessionKey d frame }) noKey place) long-new
   long-own Increment passed = formed .long c
   long-own Request passed = formed .long c
 
@@ -67,8 +65,8 @@ module _ (d : Device) (frame : List ℕ) (formed : Formed (d .image) (d .state .
 
 -- two devices that are alike
 module _
-    (frame : List ℕ) (d e : Device) (formed-d : Formed (d .image) (d .state .keys)) (formed-e : Formed (e .image) (e .state .keys))
-    (header : SameHeader (d .image) (e .image)) (alike : Alike (outcome d) (outcome e)) where
+    (frame : List ℕ) (d e : Outcome) (formed-d : Formed (d .image) (d .keys)) (formed-e : Formed (e .image) (e .keys))
+    (header : SameHeader (d .image) (e .image)) (alike : Alike d e) where
   abbrev own : ℕ
   own = counterOf frame
 

@@ -32,7 +32,7 @@ use Rattle.progress.proofs.Enabled.{enabledAs, run-same}
 use Rattle.progress.proofs.Ends.{same-end}
 use Rattle.progress.proofs.RunsWhole.{runs-whole}
 use Rattle.promises.specs.Compared.{Alike}
-use Rattle.promises.specs.Account.{Account, isBusy, idle, goneBy, worked, interrupted, cut}
+use Rattle.promises.specs.Account.{Account, isBusy, goneBy, worked, interrupted, cut}
 use Rattle.promises.specs.Formed.{Formed}
 use Rattle.promises.proofs.WholeOwn.{whole-kept}
 use Rattle.promises.proofs.Alikes.{whole-formed, alike-whole}
@@ -56,24 +56,24 @@ formed-as-if d o formed header alike =
 -- a frame has run whole: it found a device that was as if, and the device has come to the whole-frame result
 module _
     (d : Device) (frame : List ℕ) (o : Outcome) (formed : Formed (d .image) (d .state .keys)) (header : SameHeader (d .image) (o .image))
-    (alike : Alike (outcome d) o) (after : Device) (result : outcome after ≡ whole d frame) where
-  image-after : after .image ≡ whole d frame .image
+    (alike : Alike (outcome d) o) (after : Device) (result : outcome after ≡ whole (outcome d) frame) where
+  image-after : after .image ≡ whole (outcome d) frame .image
   image-after = ap (λ (p : Outcome). p .image) result
 
   header-after : SameHeader (after .image) (d .image)
-  header-after = subst (λ (i : List ℕ). SameHeader i (d .image)) (sym image-after) (whole-kept d frame (formed .laid) .header)
+  header-after = subst (λ (i : List ℕ). SameHeader i (d .image)) (sym image-after) (whole-kept (outcome d) frame (formed .laid) .header)
 
-  ended : after .state .job .there ≡ false → Resting (record { device = after; asIf = whole (idle o) frame; frame = frame })
+  ended : after .state .job .there ≡ false → Resting (record { device = after; asIf = whole o frame; frame = frame })
   ended none =
       let formed-o = formed-as-if d o formed header alike in
       record {
-        formed = subst (λ (p : Outcome). Formed (p .image) (p .keys)) (sym result) (whole-formed d frame formed);
+        formed = subst (λ (p : Outcome). Formed (p .image) (p .keys)) (sym result) (whole-formed (outcome d) frame formed);
         none = none;
         header =
             then-header (after .image) (d .image) _ header-after
             (then-header (d .image) (o .image) _ header
-            (back-header _ (o .image) (whole-kept (idle o) frame (formed-o .laid) .header)));
-        alike = subst (λ (p : Outcome). Alike p (whole (idle o) frame)) (sym result) (alike-whole frame d (idle o) formed formed-o header alike);
+            (back-header _ (o .image) (whole-kept o frame (formed-o .laid) .header)));
+        alike = subst (λ (p : Outcome). Alike p (whole o frame)) (sym result) (alike-whole frame (outcome d) o formed formed-o header alike);
       }
 
 -- the image is accepted as it stands
@@ -83,9 +83,9 @@ accepted-now a sound =
     (λ w. same-refusal (a .device .image) (a .asIf .image) (header-as-if a w)) (sound .state)
     ∙ sound .accepted
 
-accepted-whole : (o : Outcome) (frame : List ℕ) → refusal (o .image) ≡ 0 → refusal (whole (idle o) frame .image) ≡ 0
+accepted-whole : (o : Outcome) (frame : List ℕ) → refusal (o .image) ≡ 0 → refusal (whole o frame .image) ≡ 0
 accepted-whole o frame accepted =
-    same-refusal _ (o .image) (whole-kept (idle o) frame (accepted-laid (o .image) accepted) .header) ∙ accepted
+    same-refusal _ (o .image) (whole-kept o frame (accepted-laid (o .image) accepted) .header) ∙ accepted
 
 -- reset-enable goes on or off, and nothing else changes
 pub enabled-only : (b : Bool) (a : Account) → Sound a → Sound (goneBy (enabledAs b (a .device)) a)
@@ -148,16 +148,16 @@ worked-on : (after : Device) (frame : List ℕ) (a : Account) → isBusy after �
 unfolding pick
 worked-on after frame a e = ap (λ (o : Outcome). record { device = after; asIf = o; frame = frame }) (picked e)
   where
-    picked : isBusy after ≡ true → pick (isBusy after) (a .asIf) (whole (idle (a .asIf)) frame) ≡ a .asIf
+    picked : isBusy after ≡ true → pick (isBusy after) (a .asIf) (whole (a .asIf) frame) ≡ a .asIf
     picked e = rw e
 
 worked-out :
     (after : Device) (frame : List ℕ) (a : Account) → isBusy after ≡ false →
-    worked after frame a ≡ record { device = after; asIf = whole (idle (a .asIf)) frame; frame = frame }
+    worked after frame a ≡ record { device = after; asIf = whole (a .asIf) frame; frame = frame }
 unfolding pick
 worked-out after frame a e = ap (λ (o : Outcome). record { device = after; asIf = o; frame = frame }) (picked e)
   where
-    picked : isBusy after ≡ false → pick (isBusy after) (a .asIf) (whole (idle (a .asIf)) frame) ≡ whole (idle (a .asIf)) frame
+    picked : isBusy after ≡ false → pick (isBusy after) (a .asIf) (whole (a .asIf) frame) ≡ whole (a .asIf) frame
     picked e = rw e
 
 -- a command frame that finds the device idle
@@ -165,7 +165,7 @@ module _ (a : Account) (accepted : refusal (a .asIf .image) ≡ 0) (r : Resting 
   abbrev d : Device
   d = a .device
 
-  at-start : At (kindIn d frame) (counterOf frame) (frameKept frame) (d .image) 0 (d .image) (taken (d .state) 0x01 (jobOf (d .image) frame))
+  at-start : At (kindIn (outcome d) frame) (counterOf frame) (frameKept frame) (d .image) 0 (d .image) (taken (d .state) 0x01 (jobOf (d .image) frame))
   unfolding taken jobOf allStored
   at-start =
       record {
@@ -174,7 +174,7 @@ module _ (a : Account) (accepted : refusal (a .asIf .image) ≡ 0) (r : Resting 
         counter-kept = refl;
         frame-kept = refl;
         step = refl;
-        stored-so-far = rw (zero-sub (hashSteps (commandOf (kindIn d frame))));
+        stored-so-far = rw (zero-sub (hashSteps (commandOf (kindIn (outcome d) frame))));
       }
 
   pub taken-by : (b : Bool) → eqb (statusOnArrival (d .image) (d .state .keys) frame) 0 ≡ b → Sound (worked (started d frame) frame a)
@@ -198,14 +198,14 @@ module _ (a : Account) (accepted : refusal (a .asIf .image) ≡ 0) (r : Resting 
               passed = eqb-true _ 0 e;
               now = ap (device (d .image)) (arrives ∙ sym (ap (λ (s : State). withEnabled s false) arrives));
               at =
-                  subst (At (kindIn d frame) (counterOf frame) (frameKept frame) (d .image) 0 (d .image)) (sym arrives) at-start;
-              left = some-steps (kindIn d frame);
+                  subst (At (kindIn (outcome d) frame) (counterOf frame) (frameKept frame) (d .image) 0 (d .image)) (sym arrives) at-start;
+              left = some-steps (kindIn (outcome d) frame);
             });
       })
   taken-by false e =
       let arrives = arrived-fails (d .image) (d .state) frame e in
       let none : isBusy (started d frame) ≡ false = ap (λ (s : State). s .job .there) arrives ∙ r .none in
-      let result : outcome (started d frame) ≡ whole d frame =
+      let result : outcome (started d frame) ≡ whole (outcome d) frame =
       ap outcome (sym (run-idle longest (started d frame) (no-job-idle (started d frame .state) none)))
       ∙ runs-whole d frame (r .none) (r .formed .long (counterOf frame)) in
       subst Sound (sym (worked-out (started d frame) frame a none))
@@ -223,7 +223,7 @@ module _ (a : Account) (w : Working a) where
   pub worked-by : (m : ℕ) → refusal (a .asIf .image) ≡ 0 → (b : Bool) → isBusy (run m (a .device)) ≡ b → Sound (worked (run m (a .device)) (a .frame) a)
   unfolding withEnabled
   worked-by m accepted true e =
-      let on = progress (kindIn (w .found) (a .frame)) (counterOf (a .frame)) (frameKept (a .frame)) (w .found .image) (w .steps) (a .device) (w .at) (w .left) m e in
+      let on = progress (kindIn (outcome (w .found)) (a .frame)) (counterOf (a .frame)) (frameKept (a .frame)) (w .found .image) (w .steps) (a .device) (w .at) (w .left) m e in
       subst Sound (sym (worked-on (run m (a .device)) (a .frame) a e))
       (record {
         accepted = accepted;
@@ -246,7 +246,7 @@ module _ (a : Account) (w : Working a) where
   worked-by m accepted false e =
       let none : isBusy (run (m + w .steps) start) ≡ false = sym (ap isBusy (now-after m)) ∙ e in
       let end = same-end (m + w .steps) start (no-job-idle (run (m + w .steps) start .state) none) in
-      let result : outcome (run m (a .device)) ≡ whole (w .found) (a .frame) =
+      let result : outcome (run m (a .device)) ≡ whole (outcome (w .found)) (a .frame) =
       ap outcome (now-after m) ∙ ap outcome end ∙ runs-whole (w .found) (a .frame) (w .none) (w .formed .long (counterOf (a .frame))) in
       subst Sound (sym (worked-out (run m (a .device)) (a .frame) a e))
       (record {

@@ -6,14 +6,14 @@ use mathlib.Core.List.{List, [], _∷_}
 use native.Mathlib.Omega.{arith}
 use borrow.Author.Tests.{lt-ltb, le-ltb, eq-eqb}
 use lib.Dec.{eqb}
-use lib.ListN.{length, getD}
-use Rattle.words.specs.Choice.{pick, orElse}
-use Rattle.words.proofs.Choice.{either}
+use lib.ListN.{length, getD, drop}
+use Rattle.words.specs.Choice.{pick}
+use Rattle.words.specs.Rows.{firstOf, firstFailing}
 use Rattle.image.specs.Slot.{isBad}
 use Rattle.frames.specs.Classes.{namedClass, classOf}
-use Rattle.checks.specs.Layout.{frameLength}
-use Rattle.frames.specs.Layout.{counterOf}
-use Rattle.checks.specs.Checks.{shapeStatus, counterStatus, stateStatus, slotStatus, arrivalStatus}
+use Rattle.frames.specs.Layout.{layoutOf, counterOf}
+use Rattle.frames.proofs.Layouts.{long-frames}
+use Rattle.checks.specs.Checks.{arrivalChecks, arrivalStatus}
 use Rattle.state.specs.Parts.{sessionKey}
 use Rattle.arrival.specs.Arrival.{taken}
 use Rattle.rules.specs.Whole.{statusOnArrival}
@@ -27,12 +27,8 @@ use Rattle.promises.specs.Examples.{P1, P2, P3, P4, P5, P6, P7, P8, P13,
 use Rattle.promises.proofs.ExamplesCalls.{Holds, frame-called, ready-enabled, command-called}
 
 -- a frame with its length in order has two bytes or more
-pub shaped-long : (type : ℕ) (frame : List ℕ) → Shaped type frame → 1 < length frame
-unfolding frameLength
-shaped-long type frame shaped =
-    rw (shaped .sized)
-    (either (λ (n : ℕ). 1 < n) (eqb type 0) 64 _ (λ _. omega arith)
-    (λ _. either (λ (n : ℕ). 1 < n) (eqb type 3) 48 40 (λ _. omega arith) (λ _. omega arith)))
+pub shaped-long : (type : ℕ) (frame : List ℕ) → type ≤ 3 → Shaped type frame → 1 < length frame
+shaped-long type frame known shaped = rw (shaped .sized) (omega (arith, long-frames type known))
 
 module _ (d : Device) (ready : Ready d) (frame output : List ℕ) where
   abbrev c : ℕ
@@ -41,24 +37,25 @@ module _ (d : Device) (ready : Ready d) (frame output : List ℕ) where
   abbrev hasKey : Bool
   hasKey = sessionKey (d .state) c .there
 
+  -- the checks on arrival from a row on, of a frame whose length and reserved byte are in order
+  abbrev pub fromRow : ℕ → ℕ → ℕ
+  fromRow i type = firstFailing (drop i (arrivalChecks type (layoutOf type .size) 0 c 4 (slotFor d frame) hasKey))
+
   -- checks 1 to 3 do not fail
-  past-shape :
-      (type : ℕ) → type ≤ 3 → Shaped type frame →
-      statusOnArrival (d .image) (d .state .keys) frame ≡ orElse (counterStatus type c 4) (slotStatus type (slotFor d frame) hasKey)
-  unfolding statusOnArrival arrivalStatus shapeStatus pick
+  past-shape : (type : ℕ) → type ≤ 3 → Shaped type frame → statusOnArrival (d .image) (d .state .keys) frame ≡ fromRow 3 type
+  unfolding statusOnArrival arrivalStatus firstOf pick
   past-shape type known shaped =
       rw (
         shaped .typed,
         le-ltb 3 type known,
-        eq-eqb (length frame) (frameLength type) (shaped .sized),
+        eq-eqb (length frame) (layoutOf type .size) (shaped .sized),
         shaped .reserved,
         ready .four,
       )
 
   -- nor does check 4
-  pub past-counter :
-      (type : ℕ) → type ≤ 3 → InOrder type frame → statusOnArrival (d .image) (d .state .keys) frame ≡ slotStatus type (slotFor d frame) hasKey
-  unfolding counterStatus pick
+  pub past-counter : (type : ℕ) → type ≤ 3 → InOrder type frame → statusOnArrival (d .image) (d .state .keys) frame ≡ fromRow 5 type
+  unfolding firstOf pick
   past-counter type known in-order = past-shape type known (in-order .shaped) ∙ rw (lt-ltb c 4 (in-order .named))
 
   -- a frame that fails on arrival ends with its status
@@ -72,50 +69,50 @@ module _ (d : Device) (ready : Ready d) (frame output : List ℕ) where
       subst (Ends status) (sym after) (ready .none, decided)
 
   shaped-fails :
-      (type : ℕ) → Shaped type frame → (status : ℕ) → statusOnArrival (d .image) (d .state .keys) frame ≡ status → eqb status 0 ≡ false →
+      (type : ℕ) → type ≤ 3 → Shaped type frame → (status : ℕ) → statusOnArrival (d .image) (d .state .keys) frame ≡ status → eqb status 0 ≡ false →
       Ends status (called (Frame frame output) d)
-  shaped-fails type shaped = fails (shaped .first) (shaped-long type frame shaped)
+  shaped-fails type known shaped = fails (shaped .first) (shaped-long type frame known shaped)
 
   pub alone : Holds P1 d frame output
   unfolding allCalled classOf namedClass withEnabled pick
   alone e = rw e (ap (λ (after : Device). after .state .status) (frame-called d ready output (0x9B ∷ [])))
 
   pub short : Holds P2 d frame output
-  unfolding allCalled statusOnArrival arrivalStatus shapeStatus frameLength pick
+  unfolding allCalled statusOnArrival arrivalStatus firstOf pick
   short e = fails (rw e) (rw e (omega arith)) 0x04 (rw e) refl
 
   pub unknown-type : Holds P3 d frame output
-  unfolding allCalled statusOnArrival arrivalStatus shapeStatus pick
+  unfolding allCalled statusOnArrival arrivalStatus firstOf pick
   unknown-type e = fails (rw e) (rw e (omega arith)) 0x04 (rw e) refl
 
   pub root-key-beyond : Holds P4 d frame output
-  unfolding allCalled counterStatus pick
-  root-key-beyond (shaped, beyond) = shaped-fails 0 shaped 0x06 (past-shape 0 (omega arith) shaped ∙ rw beyond) refl
+  unfolding allCalled firstOf pick
+  root-key-beyond (shaped, beyond) = shaped-fails 0 (omega arith) shaped 0x06 (past-shape 0 (omega arith) shaped ∙ rw beyond) refl
 
   pub session-key-beyond : Holds P5 d frame output
-  unfolding allCalled counterStatus pick
-  session-key-beyond (shaped, beyond) = shaped-fails 1 shaped 0x04 (past-shape 1 (omega arith) shaped ∙ rw beyond) refl
+  unfolding allCalled firstOf pick
+  session-key-beyond (shaped, beyond) = shaped-fails 1 (omega arith) shaped 0x04 (past-shape 1 (omega arith) shaped ∙ rw beyond) refl
 
   -- a frame in order that fails by its slot or its session key
   slot-fails :
-      (type : ℕ) → type ≤ 3 → InOrder type frame → (status : ℕ) → slotStatus type (slotFor d frame) hasKey ≡ status → eqb status 0 ≡ false →
+      (type : ℕ) → type ≤ 3 → InOrder type frame → (status : ℕ) → fromRow 5 type ≡ status → eqb status 0 ≡ false →
       Ends status (called (Frame frame output) d)
-  slot-fails type known in-order status decided = shaped-fails type (in-order .shaped) status (past-counter type known in-order ∙ decided)
+  slot-fails type known in-order status decided = shaped-fails type known (in-order .shaped) status (past-counter type known in-order ∙ decided)
 
   pub session-key-unset : Holds P6 d frame output
-  unfolding allCalled slotStatus stateStatus pick
+  unfolding allCalled firstOf pick
   session-key-unset (in-order, sane, unset) = slot-fails 1 (omega arith) in-order 0x02 (rw (sane, unset)) refl
 
   pub request-without-key : Holds P7 d frame output
-  unfolding allCalled slotStatus stateStatus pick
+  unfolding allCalled firstOf pick
   request-without-key (in-order, sane, set, none) = slot-fails 3 (omega arith) in-order 0x08 (rw (sane, set, none)) refl
 
   pub root-key-set : Holds P8 d frame output
-  unfolding allCalled slotStatus stateStatus pick
+  unfolding allCalled firstOf pick
   root-key-set (in-order, sane, set) = slot-fails 0 (omega arith) in-order 0x02 (rw (sane, set)) refl
 
   pub bad-slot : Holds P13 d frame output
-  unfolding allCalled slotStatus isBad pick
+  unfolding allCalled firstOf isBad pick
   bad-slot (in-order, root) = slot-fails 3 (omega arith) in-order 0x20 (rw root) refl
 
   -- reset-enable goes on, the read clears it, and the reset finds it off

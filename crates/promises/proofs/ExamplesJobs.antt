@@ -6,6 +6,7 @@ use native.Mathlib.Omega.{arith}
 use borrow.Author.Tests.{eq-eqb}
 use lib.ListN.{length, take, replicate}
 use Rattle.words.specs.Choice.{pick}
+use Rattle.words.specs.Rows.{firstOf}
 use Rattle.words.specs.Words.{wordOr0}
 use Rattle.words.proofs.Table.{length-table}
 use Rattle.words.specs.Table.{field}
@@ -16,12 +17,10 @@ use Rattle.jobs.specs.declared.Command.the-variants.{WriteRootKey, IncrementCou
 use Rattle.jobs.specs.declared.Kind.{Kind}
 use Rattle.jobs.specs.declared.Kind.the-variants.{RootKeyAndCounter, Nothing, Increment}
 use Rattle.frames.specs.Layout.{counterOf}
-use Rattle.checks.specs.Checks.{stateStatus, slotStatus}
 use Rattle.state.specs.declared.Key.{Key}
 use Rattle.state.specs.declared.State.{State}
 use Rattle.state.specs.Parts.{posted, sessionKey}
-use Rattle.decision.specs.Signature.{signatureStatus}
-use Rattle.decision.specs.Decision.{incrementStatus, decision}
+use Rattle.decision.specs.Decision.{decision}
 use Rattle.plan.specs.Stores.{keyStores, stores}
 use Rattle.plan.specs.Storing.{allStored}
 use Rattle.steps.specs.Ending.{withStep, advanced}
@@ -30,7 +29,7 @@ use Rattle.arrival.specs.Arrival.{jobOf, taken}
 use Rattle.rules.specs.Whole.{frameKept, kindIn, valueIn, keyIn}
 use Rattle.arrival.proofs.Arrives.{arrived-starts}
 use Rattle.device.specs.Work.{Device, run}
-use Rattle.device.specs.Calls.{device, Frame, Work, called}
+use Rattle.device.specs.Calls.{device, Frame, Work, called, outcome}
 use Rattle.progress.proofs.Runs.{run-add}
 use Rattle.progress.proofs.Hashing.{busy, begun, hashedAt, afterFour, four-steps}
 use Rattle.progress.proofs.Stores.{stores-left, all-made}
@@ -39,7 +38,7 @@ use Rattle.promises.specs.Orders.{allCalled}
 use Rattle.promises.specs.Examples.{P9-before-the-end, P9-at-the-end, P11, P12, Ready, slotFor, InOrder, Good, Pairs, Ends, Seen}
 use Rattle.promises.proofs.Sound.{started}
 use Rattle.promises.proofs.ExamplesCalls.{Holds, work-called}
-use Rattle.promises.proofs.ExamplesArrival.{shaped-long, past-counter}
+use Rattle.promises.proofs.ExamplesArrival.{shaped-long, fromRow, past-counter}
 
 -- the first stores of a root key job that pairs, some of them left
 pub some-stored :
@@ -74,32 +73,32 @@ module _ (d : Device) (ready : Ready d) (frame output : List ℕ) where
 
   -- a frame that passes on arrival starts a job of its kind: its steps after the check
   works :
-      (type : ℕ) → type ≤ 3 → InOrder type frame → slotStatus type (slotFor d frame) (sessionKey (d .state) c .there) ≡ 0 →
-      (kind : Kind) → kindIn d frame ≡ kind → (after : State) → checked kind ≡ after → (m : ℕ) →
+      (type : ℕ) → type ≤ 3 → InOrder type frame → fromRow d ready frame output 5 type ≡ 0 →
+      (kind : Kind) → kindIn (outcome d) frame ≡ kind → (after : State) → checked kind ≡ after → (m : ℕ) →
       called (Work (m + 4)) (called (Frame frame output) d) ≡ run m (device (d .image) after)
   unfolding taken jobOf
   works type known in-order good kind is after decides m =
       let shaped = in-order .shaped in
       let passed = eq-eqb _ 0 (past-counter d ready frame output type known in-order ∙ good) in
       let starts = arrived-starts (d .image) (d .state) frame passed ∙ ap start is in
-      work-called d ready output frame (shaped .first) (shaped-long type frame shaped) (m + 4) ∙ run-add m 4 (started d frame)
+      work-called d ready output frame (shaped .first) (shaped-long type frame known shaped) (m + 4) ∙ run-add m 4 (started d frame)
       ∙ ap (run m)
       (ap (λ (s : State). run 4 (device (d .image) s)) starts ∙ four-steps _ _ _ _ _ _ _ _ _ kind ∙ ap (device (d .image)) decides)
 
   -- a good root key frame passes its check
-  root-good : Good WriteRootKey d frame → decisionOf (hashed Nothing) (valueIn d frame) ≡ 0
-  unfolding decision signatureStatus pick
+  root-good : Good WriteRootKey d frame → decisionOf (hashed Nothing) (valueIn (outcome d) frame) ≡ 0
+  unfolding decision firstOf pick
   root-good good =
       rw (fourth-hmac (field 4 32 sent) (field 0 4 sent) (d .state .chain) (replicate 8 0) (length-table _ 32) (short 0 4 sent (omega arith)), good)
 
   -- a good increment at FFFFFFFFh does not
   increment-full :
-      Good IncrementCounter d frame → wordOr0 sent 4 ≡ 0xFFFFFFFF → valueIn d frame ≡ 0xFFFFFFFF →
-      decisionOf (hashed Increment) (valueIn d frame) ≡ 0x20
-  unfolding decision signatureStatus incrementStatus pick
+      Good IncrementCounter d frame → wordOr0 sent 4 ≡ 0xFFFFFFFF → valueIn (outcome d) frame ≡ 0xFFFFFFFF →
+      decisionOf (hashed Increment) (valueIn (outcome d) frame) ≡ 0x20
+  unfolding decision firstOf pick
   increment-full good told full =
       rw (
-        fourth-hmac (keyIn d frame) (field 0 8 sent) (d .state .chain) (replicate 8 0) (ready .long-keys c) (short 0 8 sent (omega arith)),
+        fourth-hmac (keyIn (outcome d) frame .bytes) (field 0 8 sent) (d .state .chain) (replicate 8 0) (ready .long-keys c) (short 0 8 sent (omega arith)),
         good,
         told,
         full,
@@ -109,7 +108,7 @@ module _ (d : Device) (ready : Ready d) (frame output : List ℕ) where
   pub pairing :
       Pairs d frame → (m : ℕ) →
       called (Work (m + 4)) (called (Frame frame output) d) ≡ run m (device (d .image) (advanced (hashed RootKeyAndCounter)))
-  unfolding kindOf rootKind slotStatus stateStatus isBad decided withKept pick
+  unfolding kindOf rootKind firstOf isBad decided withKept pick
   pairing p =
       works 0 (omega arith) (p .in-order) (rw (p .root, p .counter)) RootKeyAndCounter
       (rw (p .in-order .shaped .typed, p .lasting, p .counter)) _ (rw (root-good (p .good)))
@@ -123,7 +122,7 @@ module _ (d : Device) (ready : Ready d) (frame output : List ℕ) where
   done-at-the-end p = subst (Ends 0x80) (sym (pairing p 11 ∙ all-made (hashed RootKeyAndCounter) 3 refl refl (d .image) 11 (omega arith))) (refl, refl)
 
   pub temporary-key : Holds P11 d frame output
-  unfolding allCalled kindOf rootKind slotStatus stateStatus isBad run decided withKept advanced pick
+  unfolding allCalled kindOf rootKind firstOf isBad run decided withKept advanced pick
   temporary-key (in-order, root, counter, value, temporary, good) =
       let after =
       works 0 (omega arith) in-order (rw (root, counter)) Nothing (rw (in-order .shaped .typed, temporary, counter))
@@ -131,7 +130,7 @@ module _ (d : Device) (ready : Ready d) (frame output : List ℕ) where
       subst (Seen P11 d frame) (sym after) ((refl, refl), value)
 
   pub full-counter : Holds P12 d frame output
-  unfolding allCalled kindOf slotStatus stateStatus run decided pick
+  unfolding allCalled kindOf firstOf run decided pick
   full-counter (in-order, sane, set, key, good, told, full) =
       let after =
       works 2 (omega arith) in-order (rw (sane, set, key)) Increment (rw (in-order .shaped .typed))

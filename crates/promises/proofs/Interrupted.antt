@@ -23,6 +23,7 @@ use Rattle.plan.specs.declared.Store.{Store}
 use Rattle.plan.specs.Stores.{stores}
 use Rattle.plan.proofs.InSlot.{putAll, InSlot, made, some-made}
 use Rattle.plan.proofs.Plans.{plan-length}
+use Rattle.device.specs.Calls.{outcome}
 use Rattle.rules.specs.Whole.{frameKept, Outcome, kindIn}
 use Rattle.rules.proofs.Taken.{Facts, below-count, facts}
 use Rattle.promises.specs.Compared.{Counter, counterIn}
@@ -53,7 +54,7 @@ module _ (a : Account) (w : Working a) where
   image = a .device .image
 
   abbrev kind : Kind
-  kind = kindIn (w .found) (a .frame)
+  kind = kindIn (outcome (w .found)) (a .frame)
 
   abbrev plan : List Store
   plan = stores kind (frameKept (a .frame)) (a .device .state .job .kept)
@@ -62,7 +63,7 @@ module _ (a : Account) (w : Working a) where
   done = w .steps - hashSteps (commandOf kind)
 
   below : c < count found
-  below = below-count (w .found) (a .frame) (w .passed)
+  below = below-count (outcome (w .found)) (a .frame) (w .passed)
 
   some : InSlot (take done plan) found c
   some = some-made kind (frameKept (a .frame)) (a .device .state .job .kept) found c (w .formed .laid) below done
@@ -99,7 +100,7 @@ module _ (a : Account) (w : Working a) where
 
   cut : Cut byte (frameKept (a .frame)) (a .device .state .job .kept) kind done
   cut =
-      cut-off byte (frameKept (a .frame)) (a .device .state .job .kept) kind (known-of kind (facts (w .found) (a .frame) (w .passed))) done
+      cut-off byte (frameKept (a .frame)) (a .device .state .job .kept) kind (known-of kind (facts (outcome (w .found)) (a .frame) (w .passed))) done
       (λ more. omega (arith, more, w .left, plan-length kind (frameKept (a .frame)) (a .device .state .job .kept)))
 
   own : counterIn image c ≡ readCounter (putAll (take done plan) (slotBytes found c))

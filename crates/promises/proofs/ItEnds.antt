@@ -18,7 +18,7 @@ use Rattle.state.specs.declared.State.{State}
 use Rattle.state.specs.Refusal.{isRunning}
 use Rattle.device.specs.Frame.{withEnabled, stateAfter}
 use Rattle.device.specs.Work.{Device, run, stepsDone}
-use Rattle.device.specs.Calls.{device, poweredUp, After, Call, PowerUp, Frame, Work, called, after}
+use Rattle.device.specs.Calls.{device, poweredUp, After, Call, PowerUp, Frame, Work, called, after, outcome}
 use Rattle.progress.proofs.Jobs.{runs, progress}
 use Rattle.progress.proofs.Ends.{work-ends}
 use Rattle.rules.specs.Whole.{kindIn}
@@ -103,4 +103,4 @@ module _ (image : List ℕ) (accepted : refusal image ≡ 0) (calls : List Call)
   pub fewer-than-longest : isBusy (a .device) ≡ true → a .device .state .job .step < longest
   fewer-than-longest busy =
       ⊎-elim (λ r. absurd (never (sym (r .none) ∙ busy)))
-      (λ w. omega (arith, w .left, w .at .step, at-most (kindIn (w .found) (a .frame)))) (sound .state)
+      (λ w. omega (arith, w .left, w .at .step, at-most (kindIn (outcome (w .found)) (a .frame)))) (sound .state)

@@ -5,8 +5,9 @@ use mathlib.Core.Bool.{Bool, true, false}
 use mathlib.Core.List.{List}
 use borrow.Author.Tests.{ltb-true, eqb-true}
 use lib.Dec.{ltb, eqb}
-use Rattle.words.specs.Choice.{pick, orElse}
-use Rattle.words.proofs.Choice.{never}
+use lib.ListN.{getD}
+use Rattle.words.specs.Choice.{pick}
+use Rattle.words.specs.Rows.{firstOf}
 use Rattle.image.specs.Header.{count}
 use Rattle.image.specs.Slot.{slotOf, isSet, isBad, rootKey}
 use Rattle.image.proofs.Laid.{SameHeader}
@@ -14,36 +15,27 @@ use Rattle.jobs.specs.Jobs.{commandOf}
 use Rattle.jobs.specs.declared.Kind.{Kind}
 use Rattle.jobs.specs.declared.Kind.the-variants.{RootKeyAndCounter, RootKey, CounterOnly, Nothing, SessionKey, Increment, Request}
 use Rattle.frames.specs.Layout.{typeOf, counterOf}
-use Rattle.checks.specs.Checks.{shapeStatus, counterStatus, slotStatus, arrivalStatus}
+use Rattle.checks.specs.Checks.{arrivalStatus}
 use Rattle.state.specs.declared.Key.{Key}
-use Rattle.state.specs.Parts.{sessionKey}
+use Rattle.state.specs.Parts.{noKey}
 use Rattle.decision.specs.Decision.{decision}
-use Rattle.rules.specs.Whole.{statusOnArrival, kindIn, allChecks, keyIn, newSessionKey, lastStatus}
-use Rattle.device.specs.Work.{Device}
+use Rattle.rules.specs.Whole.{Outcome, statusOnArrival, kindIn, allChecks, keyIn, newSessionKey, lastStatus}
+use Rattle.rules.proofs.TenChecks.{all-checks}
 use Rattle.rules.proofs.Taken.{Facts, below-count, facts}
 use Rattle.promises.specs.Compared.{Counter, counterIn}
 
 -- two devices that are the same to a frame: the header, its counter as it is compared, and its session key
-pub record SameTo (frame : List ℕ) (d e : Device) : Type 0 where
+pub record SameTo (frame : List ℕ) (d e : Outcome) : Type 0 where
   pub header : SameHeader (d .image) (e .image)
   pub counter :
       counterOf frame < count (d .image) → counterIn (d .image) (counterOf frame) ≡ counterIn (e .image) (counterOf frame)
-  pub session : sessionKey (d .state) (counterOf frame) ≡ sessionKey (e .state) (counterOf frame)
+  pub session : getD (d .keys) (counterOf frame) noKey ≡ getD (e .keys) (counterOf frame) noKey
 
--- a counter that is not below the count decides, whatever the slot
-beyond :
-    (t u : Bool) (shape after other : ℕ) → t ≡ false →
-    orElse shape (orElse (pick {A = ℕ} t 0 (pick u 0x06 0x04)) after) ≡ orElse shape (orElse (pick {A = ℕ} t 0 (pick u 0x06 0x04)) other)
-unfolding pick
-beyond true u shape after other e = absurd (never (sym e))
-beyond false true shape after other e = refl
-beyond false false shape after other e = refl
-
-module _ (frame : List ℕ) (d e : Device) (same : SameTo frame d e) where
+module _ (frame : List ℕ) (d e : Outcome) (same : SameTo frame d e) where
   abbrev c : ℕ
   c = counterOf frame
 
-  pub key-there-same : keyIn d frame ≡ keyIn e frame
+  pub key-there-same : keyIn d frame .bytes ≡ keyIn e frame .bytes
   key-there-same = ap (λ (key : Key). key .bytes) (same .session)
 
   root-same : c < count (d .image) → slotOf (d .image) c .root ≡ slotOf (e .image) c .root
@@ -65,23 +57,19 @@ module _ (frame : List ℕ) (d e : Device) (same : SameTo frame d e) where
       let set' : isSet (slotOf (e .image) c .counter) ≡ true = rw (← counter-same below) set in
       rw (set, set') at shown
 
-  arrival-by : (b : Bool) → ltb c (count (d .image)) ≡ b → statusOnArrival (d .image) (d .state .keys) frame ≡ statusOnArrival (e .image) (e .state .keys) frame
-  unfolding statusOnArrival arrivalStatus counterStatus slotStatus isBad
+  arrival-by : (b : Bool) → ltb c (count (d .image)) ≡ b → statusOnArrival (d .image) (d .keys) frame ≡ statusOnArrival (e .image) (e .keys) frame
+  unfolding statusOnArrival arrivalStatus firstOf isBad pick
   arrival-by true l =
       let below = ltb-true c (count (d .image)) l in
       rw (root-same below, counter-same below, same .session, same .header .counters)
-  arrival-by false l =
-      beyond (ltb c (count (d .image))) (eqb (typeOf frame) 0) (shapeStatus frame)
-      (slotStatus (typeOf frame) (slotOf (d .image) c) (sessionKey (d .state) c .there))
-      (slotStatus (typeOf frame) (slotOf (e .image) c) (sessionKey (e .state) c .there)) l
-      ∙ rw (same .header .counters)
+  arrival-by false l = rw (← same .header .counters, l)
 
   -- checks 1 to 7 come to the same
-  pub arrival-same : statusOnArrival (d .image) (d .state .keys) frame ≡ statusOnArrival (e .image) (e .state .keys) frame
+  pub arrival-same : statusOnArrival (d .image) (d .keys) frame ≡ statusOnArrival (e .image) (e .keys) frame
   arrival-same = arrival-by _ refl
 
   -- a frame that passes them
-  module _ (passed : statusOnArrival (d .image) (d .state .keys) frame ≡ 0) where
+  module _ (passed : statusOnArrival (d .image) (d .keys) frame ≡ 0) where
     below : c < count (d .image)
     below = below-count d frame passed
 
@@ -96,7 +84,7 @@ module _ (frame : List ℕ) (d e : Device) (same : SameTo frame d e) where
 
     -- checks 8 to 10 come to the same: the value is looked at only where the counter is set
     last-of : (kind : Kind) → Facts kind (slotOf (d .image) c) → lastStatus (commandOf kind) d frame ≡ lastStatus (commandOf kind) e frame
-    unfolding lastStatus decision
+    unfolding lastStatus decision firstOf pick
     last-of RootKeyAndCounter known = refl
     last-of RootKey known = refl
     last-of CounterOnly known = refl
@@ -109,10 +97,10 @@ module _ (frame : List ℕ) (d e : Device) (same : SameTo frame d e) where
     last-same = last-of (kindIn d frame) (facts d frame passed) ∙ ap (λ (kind : Kind). lastStatus (commandOf kind) e frame) kind-same
 
   -- all checks come to the same
-  checks-by : (b : Bool) → eqb (statusOnArrival (d .image) (d .state .keys) frame) 0 ≡ b → allChecks d frame ≡ allChecks e frame
-  unfolding allChecks pick
-  checks-by true p = rw (← arrival-same, p) (last-same (eqb-true _ 0 p))
-  checks-by false p = rw (← arrival-same, p)
+  checks-by : (b : Bool) → eqb (statusOnArrival (d .image) (d .keys) frame) 0 ≡ b → allChecks d frame ≡ allChecks e frame
+  unfolding pick
+  checks-by true p = rw (all-checks d frame, all-checks e frame, ← arrival-same, p) (last-same (eqb-true _ 0 p))
+  checks-by false p = rw (all-checks d frame, all-checks e frame, ← arrival-same, p)
 
   pub checks-same : allChecks d frame ≡ allChecks e frame
   checks-same = checks-by _ refl

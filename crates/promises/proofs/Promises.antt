@@ -58,7 +58,7 @@ pub counters-commute :
 counters-commute c fs gs o formed order =
     (same-counter c fs gs o formed order, same-session c fs gs o formed order, same-statuses c fs gs o formed order)
 
-pub two-bytes-fail : (d : Device) (frame : List ℕ) → length frame ≤ 2 → whole d frame ≡ failedWith 0x04 d
+pub two-bytes-fail : (o : Outcome) (frame : List ℕ) → length frame ≤ 2 → whole o frame ≡ failedWith 0x04 o
 two-bytes-fail = short-refused
 
 -- The same of the device, after any calls that leave it idle: each command frame is sent and gets the steps of the longest job.

@@ -18,7 +18,7 @@ use Rattle.device.specs.Work.{Device}
 use Rattle.device.specs.Calls.{Frame, Work, called}
 use Rattle.rules.specs.Whole.{Outcome, whole}
 use Rattle.promises.specs.Compared.{counterIn}
-use Rattle.promises.specs.Account.{Account, isBusy, idle, goneBy, worked, framed, accounted, account}
+use Rattle.promises.specs.Account.{Account, isBusy, goneBy, worked, framed, accounted, account}
 use Rattle.promises.specs.Reordering.{ownFrames, allWhole, eachRun, Commands}
 use Rattle.promises.proofs.Sound.{Resting, Sound}
 use Rattle.promises.specs.Formed.{Formed}
@@ -56,15 +56,15 @@ module _
 
   -- whether the job ran or the frame failed on arrival
   abbrev takenAs : Bool → Account
-  takenAs busy = record { device = after; asIf = pick busy (a .asIf) (whole (idle (a .asIf)) frame); frame = frame }
+  takenAs busy = record { device = after; asIf = pick busy (a .asIf) (whole (a .asIf) frame); frame = frame }
 
-  as-whole : (busy : Bool) → pick busy (worked ended frame (takenAs busy)) (goneBy ended (takenAs busy)) .asIf ≡ whole (idle (a .asIf)) frame
+  as-whole : (busy : Bool) → pick busy (worked ended frame (takenAs busy)) (goneBy ended (takenAs busy)) .asIf ≡ whole (a .asIf) frame
   unfolding pick
-  as-whole true = otherwise (isBusy ended) (a .asIf) (whole (idle (a .asIf)) frame) ended-idle
+  as-whole true = otherwise (isBusy ended) (a .asIf) (whole (a .asIf) frame) ended-idle
   as-whole false = refl
 
   one-whole :
-      (accounted (Work longest) (accounted (Frame frame output) a) .asIf ≡ whole (idle (a .asIf)) frame)
+      (accounted (Work longest) (accounted (Frame frame output) a) .asIf ≡ whole (a .asIf) frame)
       × (isBusy (accounted (Work longest) (accounted (Frame frame output) a) .device) ≡ false)
   one-whole = (
     ap (λ (b : Account). accounted (Work longest) b .asIf) is-taken ∙ as-whole (isBusy after),

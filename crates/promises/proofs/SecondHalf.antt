@@ -17,7 +17,6 @@ use Rattle.state.specs.Parts.{noKey}
 use Rattle.rules.proofs.TooShort.{short-refused}
 use Rattle.rules.specs.Whole.{Outcome, failedWith, whole}
 use Rattle.promises.specs.Compared.{counterIn}
-use Rattle.promises.specs.Account.{idle}
 use Rattle.promises.specs.Reordering.{belongs, ownFrames, allWhole, ownStatuses}
 use Rattle.promises.proofs.Own.{SameTo}
 use Rattle.promises.specs.Formed.{Formed}
@@ -37,21 +36,21 @@ same-of-self c o formed =
     record { formed-o = formed; formed-p = formed; header = same-header (o .image); counter = λ _. refl; session = refl }
 
 module _ (c : ℕ) (frame : List ℕ) (o p : Outcome) (same : SameOf c o p) where
-  kept-o : Kept (idle o) frame (whole (idle o) frame)
-  kept-o = whole-kept (idle o) frame (same .formed-o .laid)
+  kept-o : Kept o frame (whole o frame)
+  kept-o = whole-kept o frame (same .formed-o .laid)
 
-  kept-p : Kept (idle p) frame (whole (idle p) frame)
-  kept-p = whole-kept (idle p) frame (same .formed-p .laid)
+  kept-p : Kept p frame (whole p frame)
+  kept-p = whole-kept p frame (same .formed-p .laid)
 
   -- the counter's own frame, in both
-  own-frame : counterOf frame ≡ c → SameOf c (whole (idle o) frame) (whole (idle p) frame) × (whole (idle o) frame .status ≡ whole (idle p) frame .status)
+  own-frame : counterOf frame ≡ c → SameOf c (whole o frame) (whole p frame) × (whole o frame .status ≡ whole p frame .status)
   own-frame e =
-      let to : SameTo frame (idle o) (idle p) =
+      let to : SameTo frame o p =
       record { header = same .header; counter = λ below. rw e (same .counter (rw (← e) below)); session = rw e (same .session) } in
-      let by = whole-same frame (idle o) (idle p) to (same .formed-o) (same .formed-p) in (
+      let by = whole-same frame o p to (same .formed-o) (same .formed-p) in (
         record {
-          formed-o = whole-formed (idle o) frame (same .formed-o);
-          formed-p = whole-formed (idle p) frame (same .formed-p);
+          formed-o = whole-formed o frame (same .formed-o);
+          formed-p = whole-formed p frame (same .formed-p);
           header =
               then-header _ (o .image) _ (kept-o .header) (then-header (o .image) (p .image) _ (same .header) (back-header _ (p .image) (kept-p .header)));
           counter = λ below. rw (← e) (by .counter (rw (e, ← kept-o .header .counters) below));
@@ -61,10 +60,10 @@ module _ (c : ℕ) (frame : List ℕ) (o p : Outcome) (same : SameOf c o p) wher
       )
 
   -- another's frame, in one
-  other-frame : (counterOf frame ≡ c → ⊥) → SameOf c (whole (idle o) frame) p
+  other-frame : (counterOf frame ≡ c → ⊥) → SameOf c (whole o frame) p
   other-frame apart =
       record {
-        formed-o = whole-formed (idle o) frame (same .formed-o);
+        formed-o = whole-formed o frame (same .formed-o);
         formed-p = same .formed-p;
         header = then-header _ (o .image) (p .image) (kept-o .header) (same .header);
         counter =
@@ -75,11 +74,11 @@ module _ (c : ℕ) (frame : List ℕ) (o p : Outcome) (same : SameOf c o p) wher
       }
 
   -- nobody's frame, in one
-  short-frame : length frame ≤ 2 → SameOf c (whole (idle o) frame) p
+  short-frame : length frame ≤ 2 → SameOf c (whole o frame) p
   unfolding failedWith
-  short-frame h = subst (λ (q : Outcome). SameOf c q p) (sym (short-refused (idle o) frame h)) left-alone
+  short-frame h = subst (λ (q : Outcome). SameOf c q p) (sym (short-refused o frame h)) left-alone
     where
-      left-alone : SameOf c (failedWith 0x04 (idle o)) p
+      left-alone : SameOf c (failedWith 0x04 o) p
       left-alone =
           record {
             formed-o = same .formed-o;
@@ -109,15 +108,15 @@ one-more :
 unfolding allWhole ownStatuses pick
 one-more c frame fs rest o p same true e =
     let own = own-frame c frame o p same (is-own c frame e) in
-    let more = rest (whole (idle o) frame) (whole (idle p) frame) (own .0) in (
+    let more = rest (whole o frame) (whole p frame) (own .0) in (
       more .0,
       rw e
-          (ap (λ (status : ℕ). status ∷ ownStatuses c fs (whole (idle o) frame)) (own .1)
-          ∙ ap (λ (statuses : List ℕ). whole (idle p) frame .status ∷ statuses) (more .1)),
+          (ap (λ (status : ℕ). status ∷ ownStatuses c fs (whole o frame)) (own .1)
+          ∙ ap (λ (statuses : List ℕ). whole p frame .status ∷ statuses) (more .1)),
     )
 one-more c frame fs rest o p same false e =
     let left = ⊎-elim (short-frame c frame o p same) (other-frame c frame o p same) (not-own-by c frame _ refl e) in
-    let more = rest (whole (idle o) frame) p left in
+    let more = rest (whole o frame) p left in
     (more .0, rw e (more .1))
 
 -- a counter's own frames are all that matters to it
@@ -130,8 +129,8 @@ pub header-all : (fs : List (List ℕ)) (o : Outcome) → Formed (o .image) (o .
 unfolding allWhole
 header-all [] o formed = same-header (o .image)
 header-all (frame ∷ fs) o formed =
-    then-header _ _ (o .image) (header-all fs (whole (idle o) frame) (whole-formed (idle o) frame formed))
-    (whole-kept (idle o) frame (formed .laid) .header)
+    then-header _ _ (o .image) (header-all fs (whole o frame) (whole-formed o frame formed))
+    (whole-kept o frame (formed .laid) .header)
 
 -- Two lists of frames in which a counter has the same frames in the same order, whatever stands between them: run whole, they come
 -- to the same counter, the same session key, and the same final status of each of its frames.

@@ -41,8 +41,8 @@ pub record Working (a : Account) : Type 0 where
   pub passed : statusOnArrival (found .image) (found .state .keys) (a .frame) ≡ 0
   pub now : a .device ≡ enabledAs enabled (run steps (started found (a .frame)))
   pub at :
-      At (kindIn found (a .frame)) (counterOf (a .frame)) (frameKept (a .frame)) (found .image) steps (a .device .image) (a .device .state)
-  pub left : steps < lengthOf (kindIn found (a .frame))
+      At (kindIn (outcome found) (a .frame)) (counterOf (a .frame)) (frameKept (a .frame)) (found .image) steps (a .device .image) (a .device .state)
+  pub left : steps < lengthOf (kindIn (outcome found) (a .frame))
 
 -- the image as if is accepted, and the device rests or works
 pub record Sound (a : Account) : Type 0 where

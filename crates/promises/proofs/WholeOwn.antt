@@ -22,8 +22,8 @@ use Rattle.plan.specs.Stores.{stores}
 use Rattle.plan.specs.Storing.{allStored}
 use Rattle.plan.proofs.InSlot.{InSlot, made}
 use Rattle.rules.specs.Whole.{keptAfter, frameKept, statusOnArrival, Outcome, kindIn, valueIn, allChecks, failedWith, keysAfter, replyAfter, imageAfter, carriedOut, whole}
-use Rattle.device.specs.Work.{Device}
-use Rattle.rules.proofs.Taken.{Facts, below-count, facts, or-zero, one-end}
+use Rattle.rules.proofs.TenChecks.{all-pass}
+use Rattle.rules.proofs.Taken.{Facts, below-count, facts, one-end}
 use Rattle.promises.specs.Formed.{Formed}
 use Rattle.promises.specs.Compared.{counterIn}
 use Rattle.promises.proofs.Counters.{readCounter, counter-read, counterAfter, after-stores}
@@ -52,32 +52,32 @@ module _ (kind : Kind) (frame : List ℕ) (kept : ℕ) (image : List ℕ) (c : �
       ∙ sym (counter-read image k laid inside)
 
 -- what a frame run whole leaves alone
-pub record Kept (d : Device) (frame : List ℕ) (o : Outcome) : Type 0 where
+pub record Kept (d : Outcome) (frame : List ℕ) (o : Outcome) : Type 0 where
   pub header : SameHeader (o .image) (d .image)
-  pub size : length (o .keys) ≡ length (d .state .keys)
+  pub size : length (o .keys) ≡ length (d .keys)
   pub counters : (k : ℕ) → k < count (d .image) → (k ≡ counterOf frame → ⊥) → counterIn (o .image) k ≡ counterIn (d .image) k
-  pub sessions : (k : ℕ) → (k ≡ counterOf frame → ⊥) → getD (o .keys) k noKey ≡ getD (d .state .keys) k noKey
+  pub sessions : (k : ℕ) → (k ≡ counterOf frame → ⊥) → getD (o .keys) k noKey ≡ getD (d .keys) k noKey
 
-module _ (d : Device) (frame : List ℕ) (laid : Laid (d .image)) where
+module _ (d : Outcome) (frame : List ℕ) (laid : Laid (d .image)) where
   abbrev c : ℕ
   c = counterOf frame
 
   kept-keys :
       (kind : Kind) →
-      (length (keysAfter (commandOf kind) d frame) ≡ length (d .state .keys))
-      × ((k : ℕ) → (k ≡ c → ⊥) → getD (keysAfter (commandOf kind) d frame) k noKey ≡ getD (d .state .keys) k noKey)
+      (length (keysAfter (commandOf kind) d frame) ≡ length (d .keys))
+      × ((k : ℕ) → (k ≡ c → ⊥) → getD (keysAfter (commandOf kind) d frame) k noKey ≡ getD (d .keys) k noKey)
   kept-keys RootKeyAndCounter = (refl, λ k apart. refl)
   kept-keys RootKey = (refl, λ k apart. refl)
   kept-keys CounterOnly = (refl, λ k apart. refl)
   kept-keys Nothing = (refl, λ k apart. refl)
-  kept-keys SessionKey = (length-set (d .state .keys) c _, λ k apart. getD-set-other (d .state .keys) c k _ noKey apart)
+  kept-keys SessionKey = (length-set (d .keys) c _, λ k apart. getD-set-other (d .keys) c k _ noKey apart)
   kept-keys Increment = (refl, λ k apart. refl)
   kept-keys Request = (refl, λ k apart. refl)
 
   abbrev kept : ℕ
   kept = keptAfter (commandOf (kindIn d frame)) 0 (valueIn d frame)
 
-  carried-kept : statusOnArrival (d .image) (d .state .keys) frame ≡ 0 → Kept d frame (carriedOut (kindIn d frame) d frame)
+  carried-kept : statusOnArrival (d .image) (d .keys) frame ≡ 0 → Kept d frame (carriedOut (kindIn d frame) d frame)
   unfolding carriedOut
   carried-kept passed =
       let below = below-count d frame passed in
@@ -95,7 +95,7 @@ module _ (d : Device) (frame : List ℕ) (laid : Laid (d .image)) where
       (λ status. record { header = same-header (d .image); size = refl; counters = λ k inside apart. refl; sessions = λ k apart. refl })
 
 -- two devices that are the same to a frame come to the same by it
-pub record SameBy (frame : List ℕ) (d e : Device) (o p : Outcome) : Type 0 where
+pub record SameBy (frame : List ℕ) (d e : Outcome) (o p : Outcome) : Type 0 where
   pub status : o .status ≡ p .status
   pub reply : o .reply ≡ p .reply
   pub counter :
@@ -103,19 +103,19 @@ pub record SameBy (frame : List ℕ) (d e : Device) (o p : Outcome) : Type 0 whe
   pub session : getD (o .keys) (counterOf frame) noKey ≡ getD (p .keys) (counterOf frame) noKey
 
 module _
-    (frame : List ℕ) (d e : Device) (same : SameTo frame d e)
-    (formed-d : Formed (d .image) (d .state .keys)) (formed-e : Formed (e .image) (e .state .keys)) where
+    (frame : List ℕ) (d e : Outcome) (same : SameTo frame d e)
+    (formed-d : Formed (d .image) (d .keys)) (formed-e : Formed (e .image) (e .keys)) where
   abbrev own : ℕ
   own = counterOf frame
 
-  module _ (passed : statusOnArrival (d .image) (d .state .keys) frame ≡ 0) where
+  module _ (passed : statusOnArrival (d .image) (d .keys) frame ≡ 0) where
     below : own < count (d .image)
     below = below-count d frame passed
 
     below-e : own < count (e .image)
     below-e = rw (← same .header .counters) below
 
-    abbrev keptBy : Device → Kind → ℕ
+    abbrev keptBy : Outcome → Kind → ℕ
     keptBy x kind = keptAfter (commandOf kind) 0 (valueIn x frame)
 
     counter-same-after :
@@ -149,9 +149,9 @@ module _
     session-same-after CounterOnly = same .session
     session-same-after Nothing = same .session
     session-same-after SessionKey =
-        key-kept (d .state .keys) (formed-d .four) _
+        key-kept (d .keys) (formed-d .four) _
         ∙ ap (λ (bytes : List ℕ). record { there = true; bytes = bytes }) (new-key-same frame d e same passed)
-        ∙ sym (key-kept (e .state .keys) (formed-e .four) _)
+        ∙ sym (key-kept (e .keys) (formed-e .four) _)
     session-same-after Increment = same .session
     session-same-after Request = same .session
 
@@ -177,9 +177,9 @@ module _
         })
 
   whole-by : (b : Bool) → eqb (allChecks d frame) 0 ≡ b → SameBy frame d e (whole d frame) (whole e frame)
-  unfolding whole pick failedWith allChecks
+  unfolding whole pick failedWith
   whole-by true p =
-      rw (← checks-same frame d e same, p) (carried-same (or-zero (statusOnArrival (d .image) (d .state .keys) frame) _ (eqb-true (allChecks d frame) 0 p) .0))
+      rw (← checks-same frame d e same, p) (carried-same (all-pass d frame (eqb-true (allChecks d frame) 0 p) .0))
   whole-by false p =
       rw (← checks-same frame d e same, p)
       (record { status = refl; reply = refl; counter = same .counter; session = same .session })

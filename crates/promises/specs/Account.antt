@@ -26,19 +26,6 @@ pub record Account : Type 0 where
 abbrev pub isBusy : Device → Bool
 isBusy d = d .state .job .there
 
--- an idle device that shows an outcome
-abbrev pub idle : Outcome → Device
-idle o =
-    device (o .image)
-    (record {
-      status = o .status;
-      keys = o .keys;
-      reply = o .reply;
-      enabled = false;
-      chain = replicate 8 0;
-      job = noJob;
-    })
-
 -- the call goes by, and no frame has ended
 abbrev pub goneBy : Device → Account → Account
 goneBy after a = record { device = after; asIf = a .asIf; frame = a .frame }
@@ -46,7 +33,7 @@ goneBy after a = record { device = after; asIf = a .asIf; frame = a .frame }
 -- a frame's job runs, or it has ended with this call: then the frame has run whole
 abbrev pub worked : Device → List ℕ → Account → Account
 worked after frame a =
-    record { device = after; asIf = pick (isBusy after) (a .asIf) (whole (idle (a .asIf)) frame); frame = frame }
+    record { device = after; asIf = pick (isBusy after) (a .asIf) (whole (a .asIf) frame); frame = frame }
 
 -- the frame's own steps had set its counter: it was unset when the frame came, and is set now
 unfoldable pub hasSet : Account → Bool

@@ -12,13 +12,12 @@ use Rattle.image.specs.Slot.{slotOf, unset, isSet, isBad}
 use Rattle.image.specs.Refusal.{refusal}
 use Rattle.jobs.specs.declared.Command.{Command}
 use Rattle.jobs.specs.declared.Command.the-variants.{WriteRootKey, IncrementCounter}
-use Rattle.checks.specs.Layout.{frameLength}
-use Rattle.frames.specs.Layout.{typeOf, counterOf, reservedOf}
+use Rattle.frames.specs.Layout.{layoutOf, typeOf, counterOf, reservedOf}
 use Rattle.state.specs.Parts.{noKey, sessionKey}
 use Rattle.decision.specs.Signature.{signatureHolds}
 use Rattle.rules.specs.Whole.{frameKept, isTemporary, signature}
 use Rattle.device.specs.Work.{Device}
-use Rattle.device.specs.Calls.{Call, PowerUp, Frame, Work}
+use Rattle.device.specs.Calls.{Call, PowerUp, Frame, Work, outcome}
 use Rattle.promises.specs.Account.{isBusy}
 
 -- the rows; P9 and P10 make two claims each
@@ -56,7 +55,7 @@ slotFor d frame = slotOf (d .image) (counterOf frame)
 pub record Shaped (type : ℕ) (frame : List ℕ) : Type 0 where
   pub first : getD frame 0 0 ≡ 0x9B
   pub typed : typeOf frame ≡ type
-  pub sized : length frame ≡ frameLength type
+  pub sized : length frame ≡ layoutOf type .size
   pub reserved : reservedOf frame ≡ 0
 
 -- with its counter in order too
@@ -65,7 +64,7 @@ pub record InOrder (type : ℕ) (frame : List ℕ) : Type 0 where
   pub named : counterOf frame < 4
 
 abbrev pub Good : Command → Device → List ℕ → Type 0
-Good command d frame = signatureHolds command (frameKept frame) (signature command d frame) ≡ true
+Good command d frame = signatureHolds command (frameKept frame) (signature command (outcome d) frame) ≡ true
 
 -- a root key frame with a key that is not all FFh, for a counter with nothing set, and with a good signature
 pub record Pairs (d : Device) (frame : List ℕ) : Type 0 where

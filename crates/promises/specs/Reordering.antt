@@ -12,7 +12,6 @@ use Rattle.jobs.specs.Jobs.{longest}
 use Rattle.frames.specs.Layout.{counterOf}
 use Rattle.device.specs.Calls.{Call, Frame, Work}
 use Rattle.rules.specs.Whole.{Outcome, whole}
-use Rattle.promises.specs.Account.{idle}
 
 -- a frame belongs to the counter that it names; a two-byte one belongs to no counter
 unfoldable pub belongs : ℕ → List ℕ → Bool
@@ -26,7 +25,7 @@ ownFrames c (frame ∷ more) = pick (belongs c frame) (frame ∷ ownFrames c mor
 -- frames run whole, one after the other, with no reset or cut between
 unfoldable pub allWhole : List (List ℕ) → Outcome → Outcome
 allWhole [] o = o
-allWhole (frame ∷ more) o = allWhole more (whole (idle o) frame)
+allWhole (frame ∷ more) o = allWhole more (whole o frame)
 
 -- the calls that run frames whole: each frame, with an output buffer, and the steps of its job
 unfoldable pub eachRun : List ℕ → List (List ℕ) → List Call
@@ -42,5 +41,5 @@ Commands (frame ∷ more) = (classOf frame ≡ Command) × Commands more
 unfoldable pub ownStatuses : ℕ → List (List ℕ) → Outcome → List ℕ
 ownStatuses c [] o = []
 ownStatuses c (frame ∷ more) o =
-    pick (belongs c frame) (whole (idle o) frame .status ∷ ownStatuses c more (whole (idle o) frame))
-    (ownStatuses c more (whole (idle o) frame))
+    pick (belongs c frame) (whole o frame .status ∷ ownStatuses c more (whole o frame))
+    (ownStatuses c more (whole o frame))
