@@ -17,7 +17,7 @@ sys.dont_write_bytecode = True  # nothing is written beside the sources
 sys.path[0] = str(pathlib.Path(__file__).resolve().parents[1])  # modules are named from tests/ on
 from device.bytes import digits  # noqa: E402
 from device.talk import try_cases  # noqa: E402
-from hash.compare import cover  # noqa: E402
+from shared.coverage import cover  # noqa: E402
 from shared.programs import Comparison, expect  # noqa: E402
 from shared.signer import (  # noqa: E402
     ALL_FF,

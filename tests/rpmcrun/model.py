@@ -22,7 +22,7 @@ from device.bytes import (
     SESSION_KEY,
     word,
 )
-from shared.coverage import interruption
+from device.interruptions import interruption
 from shared.signer import ALL_FF, signature, signed_reply
 
 COUNTERS = 4
