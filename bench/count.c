@@ -1,6 +1,6 @@
 /* A plugin of qemu-user that counts the instructions a program executes, and prints the total on
    standard error when it ends. */
-#include "../tests/trace/plugin.h"
+#include "../tests/host/trace/plugin.h"
 
 #include <inttypes.h>
 #include <stdio.h>

@@ -3,7 +3,7 @@
    driver block N    from the initial hash value, N times the block with words 0 to 15
    driver hmac N     from the key with bytes 0 to 31, N times the HMAC of the message with bytes 0
                      to 15, the digest being the next key
-   driver requests   request lines for random inputs, in the form of tests/shim/shim.c
+   driver requests   request lines for random inputs, in the form of tests/hash/shim.c
    driver answers    the contestant's answers to these requests
 
    The first two print the last result: contestants that do the same work print the same digits. */

@@ -1,0 +1,77 @@
+#!/usr/bin/env python3
+"""Reads what the prover wrote in the run of `rt ci` before it, below target/.
+
+A must-fail edit shows something only if it is refused because a fact no longer holds, and not
+because the proof file no longer fits the code: so no log of an edit may say the latter. And a
+library's proofs rest on no assumed contract: only the programs that read and write name any.
+"""
+
+import pathlib
+import re
+import sys
+
+sys.dont_write_bytecode = True  # nothing is written beside the sources
+sys.path[0] = str(pathlib.Path(__file__).resolve().parents[1])  # modules are named from tests/ on
+from shared.tally import Failed, Tally  # noqa: E402
+
+ROOT = pathlib.Path(__file__).resolve().parents[2]
+
+# What the prover says where a proof file does not fit the code: it answers a need that is not
+# asked, or not in this order, or names what is not there.
+UNFIT = (
+    "that can be named from here",
+    "expected type `tie.Need-",
+    "needs a function (or path) type to bind",
+    "this λ has",
+    "is not in scope",
+    "has no field",
+)
+
+# The contracts of C functions that a program's proof assumes.
+ASSUMED = {"rpmcrun": "axioms libc: libc::read, libc::write (2 of the 50 declared)"}
+
+
+def edit(path):
+    """One must-fail edit: its log must show a fact that fails, and nothing that does not fit."""
+    crate, label = path.parent.parent.name, path.stem
+    log = ROOT / "target" / "must-fail" / crate / label / ".log"
+    if not log.is_file():
+        raise Failed(f"there is no {log.relative_to(ROOT)}: run rt ci first")
+    text = log.read_text(errors="replace")
+    for words in UNFIT:
+        if words in text:
+            line = next(line for line in text.splitlines() if words in line)
+            raise Failed(f"the proof file does not fit the edited code: {line[:300]}")
+    if "logic=not-proved" not in text:
+        raise Failed("the prover came to no end")
+
+
+def axioms(crate):
+    """The contracts that the proofs of a crate assume are the ones listed above, or none."""
+    said = (ROOT / "target" / "log" / f"{crate}.out").read_text(errors="replace")
+    ends = [line for line in said.splitlines() if line.startswith("logic=proved ")]
+    if len(ends) != 1:
+        raise Failed(f"target/log/{crate}.out says {len(ends)} times that it is proved")
+    found = [line for line in said.splitlines() if line.startswith("axioms ")]
+    counted = re.search(r" (axioms|foreign)=", ends[0]) is not None
+    wanted = [ASSUMED[crate]] if crate in ASSUMED else []
+    if found != wanted or counted != bool(wanted):
+        raise Failed(f"it assumes {found or ends[0]}")
+
+
+def crates():
+    lines = (ROOT / "crates.txt").read_text().splitlines()
+    return [line.split(":")[0] for line in lines if ":" in line.split("#")[0]]
+
+
+def main():
+    tally = Tally()
+    for crate in crates():
+        tally.test(f"axioms of {crate}", lambda: axioms(crate))
+    for path in sorted(ROOT.glob("crates/*/must-fail/*.edit")):
+        tally.test(f"edit {path.parent.parent.name}/{path.stem}", lambda: edit(path))
+    return tally.end()
+
+
+if __name__ == "__main__":
+    sys.exit(main())
