@@ -1,44 +1,51 @@
-"""The scenes of the device's benchmark, in the lines that device.c reads; Python signs the frames."""
+"""The scenes of the device's benchmark, in the lines that device.c reads; the tests' signer signs the frames."""
 
-import hmac
+import sys
 from dataclasses import dataclass
+from pathlib import Path
 
-HEAD = 0x9B
+sys.path.append(str(Path(__file__).resolve().parents[1] / "tests"))  # behind this folder: only the signer is from there
+from shared.signer import (  # noqa: E402
+    ALL_FF,
+    increment_frame,
+    request_frame,
+    root_key_frame,
+    session_key_frame,
+    signature,
+    signed_frame,
+    signed_reply,
+)
+
 ROOT_KEY = bytes(range(32))
-UNSET_KEY = bytes([0xFF] * 32)
 KEY_DATA = bytes(range(0x20, 0x24))
 TAG = bytes(range(0x40, 0x4C))
-ZERO, HIGHEST = bytes(4), bytes([0xFF] * 4)
+HIGHEST = 0xFFFFFFFF
 
 DONE, BUSY = 0x80, 0x01
 
-
-def sign(key, message):
-    return hmac.digest(key, message, "sha256")
-
-
-SESSION_KEY = sign(ROOT_KEY, KEY_DATA)
-REPLY = bytes([DONE]) + TAG + ZERO + sign(SESSION_KEY, TAG + ZERO)
+SESSION_KEY = signature(ROOT_KEY, KEY_DATA)
+REPLY = bytes([DONE]) + signed_reply(SESSION_KEY, TAG + bytes(4))
 
 
 def root_key(key, counter=0):
-    signed = bytes([HEAD, 0, counter, 0])
-    return signed + key + sign(key, signed)[4:]
+    return root_key_frame(counter, key)
 
 
-def session_key(counter=0, reserved=0):
-    signed = bytes([HEAD, 1, counter, reserved]) + KEY_DATA
-    return signed + sign(SESSION_KEY, signed)
+def session_key(counter=0):
+    return session_key_frame(counter, ROOT_KEY, KEY_DATA)
 
 
 def increment(value):
-    signed = bytes([HEAD, 2, 0, 0]) + value
-    return signed + sign(SESSION_KEY, signed)
+    return increment_frame(0, SESSION_KEY, value)
 
 
 def request():
-    signed = bytes([HEAD, 3, 0, 0]) + TAG
-    return signed + sign(SESSION_KEY, signed)
+    return request_frame(0, SESSION_KEY, TAG)
+
+
+def reserved_byte_1(frame):
+    """The frame as it would be signed if its reserved byte were 1."""
+    return signed_frame(SESSION_KEY, frame[:3] + b"\x01" + frame[4:])
 
 
 def spoiled(frame):
@@ -59,8 +66,8 @@ FRESH = ["P"]
 PAIRED = FRESH + [line(root_key(ROOT_KEY)), work(15)]
 SESSION = PAIRED + [line(session_key()), work(8)]
 ANSWERED = SESSION + [line(request()), work(8)]
-WITHOUT_ROOT = FRESH + [line(root_key(UNSET_KEY)), work(6)]
-AT_HIGHEST = SESSION + [f"W 08 {HIGHEST.hex()}"]
+WITHOUT_ROOT = FRESH + [line(root_key(ALL_FF)), work(6)]
+AT_HIGHEST = SESSION + [f"W 08 {HIGHEST:08x}"]
 BAD_SLOT = SESSION + ["W 00 00000005"]
 AT_WORK = FRESH + [line(root_key(ROOT_KEY)), work(2)]
 
@@ -96,10 +103,10 @@ KEY_AND_COUNTER = "type 00, key and counter"
 JOBS = [
     Job(KEY_AND_COUNTER, FRESH, root_key(ROOT_KEY), SENT + KEY_WORDS + COUNTER_WORDS + ROOT_WORD),
     Job("type 00, key alone", WITHOUT_ROOT, root_key(ROOT_KEY), SENT + KEY_WORDS + ROOT_WORD),
-    Job("type 00, counter alone", FRESH, root_key(UNSET_KEY), SENT + COUNTER_WORDS),
-    Job("type 00, nothing to store", WITHOUT_ROOT, root_key(UNSET_KEY), SENT),
+    Job("type 00, counter alone", FRESH, root_key(ALL_FF), SENT + COUNTER_WORDS),
+    Job("type 00, nothing to store", WITHOUT_ROOT, root_key(ALL_FF), SENT),
     Job("type 01", PAIRED, session_key(), MADE + UPDATED),
-    Job("type 02", SESSION, increment(ZERO), INCREMENTED + VALUE_WORD),
+    Job("type 02", SESSION, increment(0), INCREMENTED + VALUE_WORD),
     Job("type 03", SESSION, request(), ASKED + REPLIED),
 ]
 
@@ -121,7 +128,7 @@ class Failing:
 FAILING = [
     Failing("type 00, bad signature", FRESH, spoiled(root_key(ROOT_KEY)), 4, 0x02),
     Failing("type 01, bad signature", PAIRED, spoiled(session_key()), 8, 0x04),
-    Failing("type 02, bad signature", SESSION, spoiled(increment(ZERO)), 4, 0x04),
+    Failing("type 02, bad signature", SESSION, spoiled(increment(0)), 4, 0x04),
     Failing("type 02, not the value", SESSION, increment(HIGHEST), 4, 0x10),
     Failing("type 02, the highest value", AT_HIGHEST, increment(HIGHEST), 4, 0x20),
     Failing("type 03, bad signature", SESSION, spoiled(request()), 4, 0x04),
@@ -144,15 +151,15 @@ def taken(title, before, frame, status):
 
 
 REFUSED = [
-    taken("check 1, type 04", SESSION, bytes([HEAD, 4]) + bytes(38), 0x04),
+    taken("check 1, type 04", SESSION, b"\x9b\x04" + bytes(38), 0x04),
     taken("check 2, type 01 of 39 bytes", SESSION, session_key()[:-1], 0x04),
-    taken("check 3, reserved byte 1", SESSION, session_key(reserved=1), 0x04),
+    taken("check 3, reserved byte 1", SESSION, reserved_byte_1(session_key()), 0x04),
     taken("check 4, type 00, counter 1", SESSION, root_key(ROOT_KEY, counter=1), 0x06),
     taken("check 4, type 01, counter 1", SESSION, session_key(counter=1), 0x04),
     taken("check 5, type 03, bad slot", BAD_SLOT, request(), 0x20),
     taken("check 6, type 00, root set", PAIRED, root_key(ROOT_KEY), 0x02),
     taken("check 6, type 01, counter unset", FRESH, session_key(), 0x02),
-    taken("check 7, type 02, counter unset", FRESH, increment(ZERO), 0x08),
+    taken("check 7, type 02, counter unset", FRESH, increment(0), 0x08),
     taken("check 7, type 03, no session key", PAIRED, request(), 0x08),
 ]
 

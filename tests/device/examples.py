@@ -25,7 +25,15 @@ from device.bytes import (
 )
 from device.jobs import VALUE_PLACE, job_of
 from device.talk import Device
-from shared.signer import ALL_FF, increment_frame, request_frame, root_key_frame, session_key_frame, signature
+from shared.signer import (
+    ALL_FF,
+    increment_frame,
+    request_frame,
+    root_key_frame,
+    session_key_frame,
+    signature,
+    signed_reply,
+)
 
 KEY = pattern(32, 51)
 DATA = pattern(4, 53)
@@ -87,8 +95,7 @@ def p10_cut(steps, root, counter, value, key):
         return
     made = signature(ALL_FF, DATA)
     yield from ends(device, frame, 8, 0x80, left, chain=signature(made, frame[:8]), key1_there=1, key1=made)
-    told = TAG + word(value)
-    reply = told + signature(made, told)
+    reply = signed_reply(made, TAG + word(value))
     yield from ends(device, request_frame(1, made, TAG), 8, 0x80, left, chain=reply[16:], reply_there=1, reply=reply)
     yield from device.read(b"\x80" + reply + b"\xff")
 

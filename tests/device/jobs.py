@@ -26,7 +26,7 @@ from device.bytes import (
     word_at,
 )
 from hash.blocks import after_first_block
-from shared.signer import ALL_FF, signature
+from shared.signer import ALL_FF, signature, signed_reply
 
 ROOT_STATE_PLACE, COUNTER_STATE_PLACE, VALUE_PLACE, KEY_PLACE = 0, 4, 8, 16
 
@@ -133,7 +133,7 @@ def increment_job(image, state, frame, failed=None):
 def request_job(image, state, frame, failed=None):
     key, value = get(state, f"key{frame[2]}"), word_at(image, slot_place(image, frame[2]) + VALUE_PLACE)
     told = frame[4:16] + word(value)
-    leaves = {"reply_there": 1, "reply": told + signature(key, told)}
+    leaves = {"reply_there": 1, "reply": signed_reply(key, told)}
     hashed = [(key, frame[:16]), (key, told)]
     return Job(image, state, frame, REQUEST, hashed, [], failed, kept=value, leaves=leaves)
 

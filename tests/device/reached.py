@@ -13,9 +13,10 @@ from device.bytes import (
     slot_place,
     word_at,
 )
+from device.interruptions import interruption, interruptions
 from device.rules import CAUSES, arrival_check, faults, image_faults, is_taken, wanted_answer
 from device.talk import expect
-from shared.coverage import Coverage, interruption, interruptions
+from shared.coverage import Coverage
 
 # The statuses that a failed check of 8 to 10 posts, by kind of job.
 FAILING = {kind: (0x02,) for kind in range(4)}

@@ -22,7 +22,15 @@ from device.bytes import (
 )
 from device.jobs import job_of
 from device.talk import Device
-from shared.signer import ALL_FF, increment_frame, request_frame, root_key_frame, session_key_frame, signature
+from shared.signer import (
+    ALL_FF,
+    increment_frame,
+    request_frame,
+    root_key_frame,
+    session_key_frame,
+    signature,
+    signed_frame,
+)
 
 ROOT = pattern(32, 31)
 STORED = pattern(32, 33)
@@ -64,8 +72,7 @@ def session_key_frames(image, counter):
     good = session_key_frame(counter, root_key, DATA)
     frames = {"a session key": (good, None)}
     frames |= {f"a session key, {name}": (frame, 0x04) for name, frame in wrongly_signed(good).items()}
-    under_root = good[:8] + signature(root_key, good[:8])
-    frames["a session key, signed under the root key"] = (under_root, 0x04)
+    frames["a session key, signed under the root key"] = (signed_frame(root_key, good), 0x04)
     other_root = STORED if root_key == ALL_FF else ALL_FF
     frames["a session key, under another root key"] = (session_key_frame(counter, other_root, DATA), 0x04)
     return frames

@@ -15,6 +15,7 @@ import sys
 
 sys.dont_write_bytecode = True  # nothing is written beside the sources
 sys.path[0] = str(pathlib.Path(__file__).resolve().parents[1])  # modules are named from tests/ on
+from shared.coverage import cover  # noqa: E402
 from shared.programs import LONGEST_MESSAGE, Comparison, Platform, expect, line_of  # noqa: E402
 from shared.tally import Failed, Tally  # noqa: E402
 
@@ -192,12 +193,6 @@ def compare_no_requests(programs):
     for program in programs:
         expect(program.name, NO_REQUESTS, program.ask_lines(NO_REQUESTS), ["?"] * len(NO_REQUESTS))
     return f"{len(NO_REQUESTS)} lines"
-
-
-def cover(wanted, reached):
-    missing = sorted(set(wanted) - set(reached))
-    if missing:
-        raise Failed(f"not reached: {missing}")
 
 
 def test_coverage(tally, reached):

@@ -17,7 +17,7 @@ sys.dont_write_bytecode = True  # nothing is written beside the sources
 sys.path[0] = str(pathlib.Path(__file__).resolve().parents[1])  # modules are named from tests/ on
 from device.bytes import digits  # noqa: E402
 from device.talk import try_cases  # noqa: E402
-from hash.compare import cover  # noqa: E402
+from shared.coverage import cover  # noqa: E402
 from shared.programs import Comparison, expect  # noqa: E402
 from shared.signer import (  # noqa: E402
     ALL_FF,
@@ -26,6 +26,7 @@ from shared.signer import (  # noqa: E402
     root_key_frame,
     session_key_frame,
     signature,
+    signed_reply,
 )
 from shared.tally import Tally  # noqa: E402
 
@@ -90,18 +91,17 @@ def refused():
 
 def read():
     """Verdicts in their order: busy, failed, tag, signature, good; refusals before them."""
-    told = TAG + VALUE
-    signed = told + signature(KEY, told)
-    other = b"dappleteg 13" + VALUE
+    told, other = TAG + VALUE, b"dappleteg 13" + VALUE
+    signed = signed_reply(KEY, told)
     for status in range(256):
         wanted = "0 good 0 " + digits(VALUE) if status == 0x80 else f"0 failed {status} -"
         yield reply_line(KEY, TAG, bytes([status]) + signed), "0 busy 0 -" if status % 2 else wanted
     for reply, wanted in [
         (b"\x01" * 49, "0 busy 0 -"),
         (b"\x80" + b"\xff" * 48, "0 tag 0 -"),
-        (b"\x80" + other + signature(KEY, other), "0 tag 0 -"),
+        (b"\x80" + signed_reply(KEY, other), "0 tag 0 -"),
         (b"\x80" + other + bytes(32), "0 tag 0 -"),
-        (b"\x80" + told + signature(ALL_FF, told), "0 signature 0 -"),
+        (b"\x80" + signed_reply(ALL_FF, told), "0 signature 0 -"),
         (b"\x80" + TAG + DATA + signature(KEY, told), "0 signature 0 -"),
         (b"\x80" + signed[:-1], "8 refused 0 -"),
         (b"\x80" + signed + b"\xff", "8 refused 0 -"),
@@ -158,8 +158,7 @@ def altered(rng, reply):
 def random_reply(rng):
     key = rng.randbytes(length(rng, 32, (0, 31, 33, 64)))
     tag = rng.randbytes(length(rng, 12, (0, 11, 13, 16)))
-    told = tag + rng.randbytes(4)
-    reply = b"\x80" + told + signature(key, told)
+    reply = b"\x80" + signed_reply(key, tag + rng.randbytes(4))
     kind = rng.randrange(5)
     if kind == 1:
         reply = altered(rng, reply)

@@ -17,7 +17,14 @@ import tempfile
 
 sys.dont_write_bytecode = True  # nothing is written beside the sources
 sys.path[0] = str(pathlib.Path(__file__).resolve().parents[1])  # modules are named from tests/ on
-from shared.signer import increment_frame, request_frame, root_key_frame, session_key_frame, signature  # noqa: E402
+from shared.signer import (  # noqa: E402
+    increment_frame,
+    request_frame,
+    root_key_frame,
+    session_key_frame,
+    signature,
+    signed_reply,
+)
 from shared.tally import Failed, Tally  # noqa: E402
 
 ROOT = pathlib.Path(__file__).resolve().parents[2]
@@ -37,7 +44,7 @@ FILES = {"include/rpmc_host.h", "lib/librpmc_host.a", "lib/pkgconfig/rpmc_host.p
 KEY = bytes(range(0x20, 0x24)) + bytes(28)
 FOUR = bytes.fromhex("00112233")
 TAG = bytes(range(1, 13))
-REPLY = b"\x80" + TAG + FOUR + signature(KEY, TAG + FOUR)
+REPLY = b"\x80" + signed_reply(KEY, TAG + FOUR)
 PRINTED = [
     root_key_frame(3, KEY),
     session_key_frame(3, KEY, FOUR),

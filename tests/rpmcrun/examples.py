@@ -21,6 +21,7 @@ from shared.signer import (  # noqa: E402
     root_key_frame,
     session_key_frame,
     signature,
+    signed_reply,
 )
 from shared.tally import Tally  # noqa: E402
 
@@ -72,8 +73,7 @@ def cut(frame, steps):
 
 def root_unset_and_value_is(counter, value):
     """The counter is set at a value and the root is unset: session keys come from the FFh key."""
-    told = TAG + value.to_bytes(4, "big")
-    reply = b"\x80" + told + signature(FF_SESSION_KEY, told)
+    reply = b"\x80" + signed_reply(FF_SESSION_KEY, TAG + value.to_bytes(4, "big"))
     return (
         ends(session_key_frame(counter, ALL_FF, DATA), 8, "80")
         + ends(request_frame(counter, FF_SESSION_KEY, TAG), 8, "80")

@@ -22,12 +22,14 @@ from device.bytes import (
     SESSION_KEY,
     word,
 )
-from shared.coverage import interruption
-from shared.signer import ALL_FF, signature
+from device.interruptions import interruption
+from shared.signer import ALL_FF, signature, signed_reply
 
 COUNTERS = 4
 MOST = 0xFFFFFFFF
-SIGNED = (4, 8, 8, 16)  # the bytes of a frame that are signed, by type
+# The bytes of a frame that are signed, by type. Not the signer's table: what a host signs and what a device
+# checks are read from document 01 twice, so that a mistake in one shows.
+SIGNED = (4, 8, 8, 16)
 LENGTHS_NAMED = (1, 2, 40, 48, 64, 256)
 SETS_COUNTER = 14  # the steps of the 15 after which the counter is set
 
@@ -255,8 +257,7 @@ class Model:
         elif frame[1] == 0x02:
             counter.value += 1
         else:
-            told = frame[4:16] + word(counter.value)
-            self.reply = told + signature(counter.session_key, told)
+            self.reply = signed_reply(counter.session_key, frame[4:16] + word(counter.value))
 
     def interrupt(self, way):
         """A reset or a power-up: a job is dropped, but a counter that its own steps set stays set."""

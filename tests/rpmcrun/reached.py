@@ -12,9 +12,10 @@ tests/device/compare.py reaches these on images and states of its own.
 """
 
 from device.bytes import KIND_NAMES, SESSION_KEY
+from device.interruptions import interruptions
 from rpmcrun.lines import SORTS
 from rpmcrun.model import COUNTERS
-from shared.coverage import Coverage, interruptions
+from shared.coverage import Coverage
 
 ROOT_KEY_KINDS = KIND_NAMES[:4]
 FAILING_LENGTHS = [8 if kind == SESSION_KEY else 4 for kind in range(len(KIND_NAMES))]

@@ -7,7 +7,9 @@ import random
 from device.bytes import pattern, word
 from rpmcrun.history import History
 from rpmcrun.lines import SORTS
-from shared.signer import ALL_FF, increment_frame, request_frame, root_key_frame, session_key_frame, signature
+from shared.signer import (
+    ALL_FF, increment_frame, request_frame, root_key_frame, session_key_frame, signature, signed_frame,
+)
 
 KEY = pattern(32, 71)
 DATA = pattern(4, 72)
@@ -105,8 +107,7 @@ def faulty(counter, sort, faults):
     head = bytes([0x9B, sort, 9 if beyond else counter, 1 if reserved else 0])
     rest = (b"", DATA, word(9 if data else 0), TAG)[sort]
     key = (ALL_FF[1:] + b"\x00", signature(ALL_FF, DATA), SESSION_KEY, SESSION_KEY)[sort]
-    digest = signature(key, head + rest)
-    frame = head + (key + digest[4:] if sort == 0x00 else rest + digest)
+    frame = signed_frame(key, head + (key if sort == 0x00 else rest))
     frame = frame[:-1] + bytes([frame[-1] ^ signed])
     return frame[:-1] if length else frame
 

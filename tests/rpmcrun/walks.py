@@ -6,18 +6,14 @@ import random
 from device.bytes import FRAME_LENGTHS, word
 from rpmcrun.history import History
 from rpmcrun.lines import SORTS
-from rpmcrun.model import COUNTERS, MOST, SIGNED
-from shared.signer import ALL_FF, increment_frame, request_frame, root_key_frame, session_key_frame, signature
+from rpmcrun.model import COUNTERS, MOST
+from shared.signer import (
+    ALL_FF, SIGNED, increment_frame, request_frame, root_key_frame, session_key_frame, signature, signed_frame,
+)
 
 LENGTHS = (0, 1, 20, 50, 50, 100, 100, 200, 400, 1500)  # lines of a history, about
 KEYS_KEPT = 8  # session keys that were once in use, to sign with wrongly
 FRAMES_KEPT = 30  # earlier frames, to send again
-
-
-def resigned(frame, key):
-    """The frame with the signature that its bytes, as they now are, have under a key."""
-    digest = signature(key, frame[: SIGNED[frame[1]]])
-    return frame[:36] + digest[-28:] if frame[1] == 0x00 else frame[: SIGNED[frame[1]]] + digest
 
 
 def with_byte(frame, at, byte):
@@ -96,8 +92,8 @@ class Walk:
         if sort == 2:
             return frame + rng.randbytes(rng.choice((1, 8, 16, 24, 256 - len(frame))))
         if sort == 3:
-            return resigned(with_byte(frame, 3, rng.choice((1, 0x80, 0xFF, rng.randrange(1, 256)))), key)
-        return resigned(with_byte(frame, 2, rng.choice((4, 5, 8, 0x80, 0xFC, 0xFF))), key)
+            return signed_frame(key, with_byte(frame, 3, rng.choice((1, 0x80, 0xFF, rng.randrange(1, 256)))))
+        return signed_frame(key, with_byte(frame, 2, rng.choice((4, 5, 8, 0x80, 0xFC, 0xFF))))
 
     def wrongly_signed(self, frame):
         rng = self.rng
@@ -108,10 +104,10 @@ class Walk:
         if sort == 1 and frame[1] == 0x00:
             return frame[:36] + signature(frame[4:36], frame[:4])[:28]
         if sort == 2 and frame[1] == 0x01:
-            return resigned(frame, self.model.counters[frame[2] % COUNTERS].key_in_use)
+            return signed_frame(self.model.counters[frame[2] % COUNTERS].key_in_use, frame)
         if sort == 3:
             return with_byte(frame, 2, (frame[2] + rng.randrange(1, 4)) % COUNTERS)
-        return resigned(frame, rng.choice(self.session_keys + self.root_keys))
+        return signed_frame(rng.choice(self.session_keys + self.root_keys), frame)
 
     def wrong_data(self, frame):
         """An increment of another value, which is signed; for another type, any frame sent before."""
@@ -121,7 +117,7 @@ class Walk:
         swapped = int.from_bytes(frame[4:8], "little")
         near = ((value + 1) & MOST, max(value, 1) - 1, value ^ 0x100, value ^ 1 << 31)
         other = self.rng.choice((*near, swapped, MOST))
-        return resigned(frame[:4] + word(other) + frame[8:], self.signing_key(frame))
+        return signed_frame(self.signing_key(frame), frame[:4] + word(other) + frame[8:])
 
     def command_frame(self, sets_root, wrong):
         """A command frame; of 20, so many are misshapen, wrongly signed, or have wrong data. One that

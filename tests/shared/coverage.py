@@ -1,26 +1,16 @@
-"""What tests have to reach, by title, how often they did, and the names that several tests share."""
+"""What tests have to reach, by title, and how often they did."""
 
 import collections
 
-from device.bytes import KIND_NAMES, LENGTHS
 from shared.tally import Failed
 
 MOST_SHOWN = 40  # names with their counts in a report; of a longer list the rarest is told
-WAYS = ("reset", "power-up")
 
 
-def interruptions(lengths=LENGTHS):
-    """Every kind of job after each number of steps that leaves it unfinished, in both ways."""
-    return [
-        interruption(kind, steps, way)
-        for kind, length in enumerate(lengths)
-        for steps in range(length)
-        for way in WAYS
-    ]
-
-
-def interruption(kind, steps, way):
-    return f"{KIND_NAMES[kind]} after {steps}, {way}"
+def cover(wanted, reached):
+    missing = sorted(set(wanted) - set(reached))
+    if missing:
+        raise Failed(f"not reached: {missing}")
 
 
 class Coverage:
