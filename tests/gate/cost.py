@@ -56,7 +56,7 @@ def on_page():
     if head is None:
         raise Failed(f"{PAGE.relative_to(ROOT)} has no table of crates with their seconds")
     listed = [row for row in rows[rows.index(head):] if row[0] in crates(ROOT) and len(row) == len(head)]
-    return {row[0]: float(row[head.index("seconds")]) for row in listed}
+    return {row[0]: float(row[head.index("seconds")].replace(",", "")) for row in listed}
 
 
 def in_file(path):
