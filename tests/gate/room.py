@@ -47,9 +47,10 @@ def apply(edit, folder):
 
 
 def place(text, folder):
-    """Where the prover's first error is, if it names a place in that folder."""
-    found = re.search(r"^(?:note: )?(\S+:\d+:\d+): ?", text, re.MULTILINE)
-    return found[1].removeprefix(f"{folder}/") if found else ""
+    """Where the prover's first error is in that folder; if it gives none, its first note."""
+    found = (re.search(r"^(\S+:\d+:\d+): error", text, re.MULTILINE)
+             or re.search(r"^note: (\S+:\d+:\d+):", text, re.MULTILINE))
+    return found[1].removeprefix(f"{folder}/") if found else "no place"
 
 
 class Room:
