@@ -88,7 +88,7 @@ class Trial:
         self.table.append((name, len(mine), self.tally.failed - before, whole[0], seconds))
 
     def run(self, jobs):
-        self.room.furnish()
+        self.room.enter()
         with concurrent.futures.ThreadPoolExecutor(jobs) as pool:
             try:
                 for name in dict.fromkeys(edit.crate for edit in self.wanted):

@@ -7,6 +7,7 @@ of that incremental folder, and links to the rest of `base`. So each edit starts
 proved, and nothing of one edit reaches the next.
 """
 
+import fcntl
 import os
 import pathlib
 import re
@@ -59,6 +60,18 @@ class Room:
         self.room = root / "target" / "edits"
         self.base = self.room / "base"
         self.below = crates(root)
+        self.held = None  # the lock, while a run is in the room
+
+    def enter(self):
+        """One run at a time is in the room: another waits."""
+        self.room.mkdir(parents=True, exist_ok=True)
+        self.held = (self.room / "lock").open("w")
+        try:
+            fcntl.flock(self.held, fcntl.LOCK_EX | fcntl.LOCK_NB)
+        except BlockingIOError:
+            print("another run is at work in target/edits: this one waits for its end", flush=True)
+            fcntl.flock(self.held, fcntl.LOCK_EX)
+        self.furnish()
 
     def furnish(self):
         """Brings `base` up to date with the work tree, and with what is proved there."""
@@ -88,6 +101,7 @@ class Room:
     def leave(self):
         """Removes the folders of edits. `base` stays for the next time, and the logs to be read."""
         shutil.rmtree(self.room / "try", ignore_errors=True)
+        self.held.close()
 
     def log(self, name):
         return self.room / "log" / f"{name}.log"
