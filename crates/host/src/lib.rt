@@ -5,11 +5,10 @@ ghost use mathlib.Core.Path.{_≡_};
 ghost use Prim.Native.Nat.{_+_, _≤_};
 ghost use mathlib.Core.List.{_++_};
 ghost use lib.ListN.{length};
-ghost use Rattle.words.specs.Choice.{pick};
 ghost use Rattle.hmac.specs.Hmac.{HMAC};
 ghost use Rattle.frames.specs.Layout.{layoutOf};
 ghost use Rattle.host.specs.Frames.{head, signedBy, rootKeyFrame};
-ghost use Rattle.host.specs.Reading.{signatureHolds, judged, readReply, partOf};
+ghost use Rattle.host.specs.Reading.{replySigned, judged, readReply, partOf};
 ghost use Rattle.host.specs.Building.{buildRefusal, withFront, dataSizeOf, builtSigned};
 ghost use Rattle.host.specs.Building.{Answers, builtRootKey, builtSessionKey, builtIncrement, builtRequest, derivedKey};
 
@@ -157,23 +156,12 @@ pub enum Verdict {
 }
 
 // Whether the signature of a reply is that of its tag and counter bytes.
-fn signature_holds(key: &[u8], reply: &[u8]) -> bool
+fn reply_signed(key: &[u8], reply: &[u8]) -> bool
     requires { ⌜ (length (now key) ≡ 32) × (length (now reply) ≡ 49) ⌝ }
-    ensures { λ r. ⌜ r ≡ signatureHolds (now (key .entry)) (now (reply .entry)) ⌝ }
+    ensures { λ r. ⌜ r ≡ replySigned (now (key .entry)) (now (reply .entry)) ⌝ }
 {
     let signed = signature(key, &reply[1..17]);
     compare::same(&reply[17..49], &signed)
-}
-
-// The verdict on a reply with the right tag, by its signature.
-fn by_signature(key: &[u8], reply: &[u8]) -> Verdict
-    requires { ⌜ (length (now key) ≡ 32) × (length (now reply) ≡ 49) ⌝ }
-    ensures { λ r. ⌜ r ≡ pick (signatureHolds (now (key .entry)) (now (reply .entry))) Verdict.Good Verdict.WrongSignature ⌝ }
-{
-    if !signature_holds(key, reply) {
-        return Verdict::WrongSignature;
-    }
-    Verdict::Good
 }
 
 // The verdict on a reply, of arguments of the right lengths.
@@ -188,10 +176,13 @@ fn judged(key: &[u8], tag: &[u8], reply: &[u8]) -> Verdict
     if status != 0x80 {
         return Verdict::Failed(status);
     }
-    if compare::same(&reply[1..13], tag) {
-        return by_signature(key, reply);
+    if !compare::same(&reply[1..13], tag) {
+        return Verdict::WrongTag;
     }
-    Verdict::WrongTag
+    if !reply_signed(key, reply) {
+        return Verdict::WrongSignature;
+    }
+    Verdict::Good
 }
 
 // The verdict on a reply to the request with this tag. Refusals 6 and 8.
