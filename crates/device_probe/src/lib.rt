@@ -8,7 +8,8 @@ ghost use Rattle.device.specs.Calls.{device, poweredUp, afterFrame, outputAfter
 // Power-up: its number; the state goes to `state`.
 #[no_mangle]
 pub extern "C" fn probe_power_up(image: &[u8], state: &mut [u8; 383]) -> u32
-    ensures { λ r. ⌜ (r ≡ poweredUp (now (image .entry)) .number) × (now (state .exit) ≡ packed (poweredUp (now (image .entry)) .state)) ⌝ }
+    ensures { λ r. ⌜ r ≡ poweredUp (now (image .entry)) .number ⌝ }
+    ensures { λ _. ⌜ now (state .exit) ≡ packed (poweredUp (now (image .entry)) .state) ⌝ }
 {
     let up = device::power_up(image);
     packed::pack(up.state, state);
@@ -23,7 +24,9 @@ pub extern "C" fn probe_frame(
     frame: &[u8],
     output: &mut [u8],
 ) -> u32
-    ensures { λ r. ⌜ (r ≡ afterFrame (now (image .entry)) (unpacked (now (state .entry))) (now (frame .entry)) .number) × (now (state .exit) ≡ packed (afterFrame (now (image .entry)) (unpacked (now (state .entry))) (now (frame .entry)) .state)) × (now (output .exit) ≡ outputAfterFrame (now (image .entry)) (unpacked (now (state .entry))) (now (frame .entry)) (now (output .entry))) ⌝ }
+    ensures { λ r. ⌜ r ≡ afterFrame (now (image .entry)) (unpacked (now (state .entry))) (now (frame .entry)) .number ⌝ }
+    ensures { λ _. ⌜ now (state .exit) ≡ packed (afterFrame (now (image .entry)) (unpacked (now (state .entry))) (now (frame .entry)) .state) ⌝ }
+    ensures { λ _. ⌜ now (output .exit) ≡ outputAfterFrame (now (image .entry)) (unpacked (now (state .entry))) (now (frame .entry)) (now (output .entry)) ⌝ }
 {
     let s = packed::unpack(state);
     let after = device::frame(image, s, frame, output);
@@ -39,7 +42,10 @@ pub extern "C" fn probe_work(
     quota: u32,
     steps: &mut [u32; 1],
 ) -> u32
-    ensures { λ r. ⌜ (r ≡ afterWork (device (now (image .entry)) (unpacked (now (state .entry)))) quota .number) × (now (state .exit) ≡ packed (afterWork (device (now (image .entry)) (unpacked (now (state .entry)))) quota .state)) × (now (steps .exit) ≡ afterWork (device (now (image .entry)) (unpacked (now (state .entry)))) quota .steps ∷ []) × (now (image .exit) ≡ imageAfterWork (device (now (image .entry)) (unpacked (now (state .entry)))) quota) ⌝ }
+    ensures { λ r. ⌜ r ≡ afterWork (device (now (image .entry)) (unpacked (now (state .entry)))) quota .number ⌝ }
+    ensures { λ _. ⌜ now (state .exit) ≡ packed (afterWork (device (now (image .entry)) (unpacked (now (state .entry)))) quota .state) ⌝ }
+    ensures { λ _. ⌜ now (steps .exit) ≡ afterWork (device (now (image .entry)) (unpacked (now (state .entry)))) quota .steps ∷ [] ⌝ }
+    ensures { λ _. ⌜ now (image .exit) ≡ imageAfterWork (device (now (image .entry)) (unpacked (now (state .entry)))) quota ⌝ }
 {
     let s = packed::unpack(state);
     let worked = device::work(image, s, quota);

@@ -1,21 +1,27 @@
 -- Document 01, "Refusal numbers": host build checks 5, 6, 7. A built frame fills the front of the output; the rest stays.
 -- Assumes nothing.
-use Prim.Native.Nat.{ℕ, _+_}
-use mathlib.Core.List.{List, _++_}
+use Prim.Native.Nat.{ℕ, _-_}
+use mathlib.Core.Path.{_≡_}
+use mathlib.Core.Bool.{not}
+use mathlib.Core.List.{List, [], _∷_, _++_}
 use lib.Dec.{ltb, eqb}
 use lib.ListN.{length, drop}
 use Rattle.words.specs.Choice.{pick}
-use Rattle.host.specs.Frames.{head, signedBy, sessionKey, rootKeyFrame, sessionKeyFrame, incrementFrame, requestFrame}
+use Rattle.words.specs.Rows.{Row, _gives_, firstFailing, anyOf}
+use Rattle.frames.specs.Layout.{layoutOf}
+use Rattle.host.specs.Frames.{head, signedBy, newSessionKey, rootKeyFrame, sessionKeyFrame, incrementFrame, requestFrame}
 
 -- 5: counter number above 3. 6: a key not 32 bytes, tag not 12, other data not 4. 7: output shorter than the frame
+abbrev pub buildRefusals : ℕ → ℕ → ℕ → ℕ → ℕ → ℕ → List (Row ℕ)
+buildRefusals counter keySize dataSize dataNeeded room needed =
+    (ltb 3 counter gives 5)
+    ∷ (anyOf (not (eqb keySize 32) ∷ not (eqb dataSize dataNeeded) ∷ []) gives 6)
+    ∷ (ltb room needed gives 7)
+    ∷ []
+
 unfoldable pub buildRefusal : ℕ → ℕ → ℕ → ℕ → ℕ → ℕ → ℕ
 buildRefusal counter keySize dataSize dataNeeded room needed =
-    pick (ltb 3 counter) 5
-    (pick (eqb keySize 32)
-    (pick (eqb dataSize dataNeeded)
-    (pick (ltb room needed) 7 0)
-    6)
-    6)
+    firstFailing (buildRefusals counter keySize dataSize dataNeeded room needed)
 
 -- the output with a frame at its front
 unfoldable pub withFront : List ℕ → List ℕ → List ℕ
@@ -26,40 +32,44 @@ pub record Built : Type 0 where
   pub number : ℕ
   pub output : List ℕ
 
+-- a call answers so: this is the number that it returns, and this the output that it leaves
+abbrev pub Answers : Built → ℕ → List ℕ → Type 0
+Answers b number output = (number ≡ b .number) × (output ≡ b .output)
+
 -- a refused call leaves the output as found
 abbrev pub built : ℕ → List ℕ → List ℕ → Built
 built number filled output = record { number = number; output = pick (eqb number 0) filled output }
 
--- a frame of a head, n bytes of data, and the signature of both
-abbrev pub builtSigned : ℕ → ℕ → List ℕ → List ℕ → ℕ → List ℕ → Built
-builtSigned type counter key bytes n output =
-    built (buildRefusal counter (length key) (length bytes) n (length output) (36 + n))
-    (withFront (signedBy key (head type counter ++ bytes)) output)
+-- the bytes of data between head and signature that a frame of a type has
+abbrev pub dataSizeOf : ℕ → ℕ
+dataSizeOf type = layoutOf type .at - 4
+
+-- a frame of a type, of a key and data: the frame table says how much data, and how much room in the output
+abbrev pub builtFrame : ℕ → ℕ → List ℕ → List ℕ → List ℕ → List ℕ → Built
+builtFrame type counter key bytes frame output =
+    built (buildRefusal counter (length key) (length bytes) (dataSizeOf type) (length output) (layoutOf type .size))
+    (withFront frame output)
     output
 
--- builders of types 00 and 01 take the root key, the others the session key
+-- builders of types 00 and 01 take the root key, the others the session key; the data of type 00 is the key
 abbrev pub builtRootKey : ℕ → List ℕ → List ℕ → Built
-builtRootKey counter key output =
-    built (buildRefusal counter (length key) 0 0 (length output) 64) (withFront (rootKeyFrame counter key) output) output
+builtRootKey counter key output = builtFrame 0 counter key key (rootKeyFrame counter key) output
 
 abbrev pub builtSessionKey : ℕ → List ℕ → List ℕ → List ℕ → Built
-builtSessionKey counter root keyData output =
-    built (buildRefusal counter (length root) (length keyData) 4 (length output) 40)
-    (withFront (sessionKeyFrame counter root keyData) output)
-    output
+builtSessionKey counter root keyData output = builtFrame 1 counter root keyData (sessionKeyFrame counter root keyData) output
 
 abbrev pub builtIncrement : ℕ → List ℕ → List ℕ → List ℕ → Built
-builtIncrement counter key value output =
-    built (buildRefusal counter (length key) (length value) 4 (length output) 40)
-    (withFront (incrementFrame counter key value) output)
-    output
+builtIncrement counter key value output = builtFrame 2 counter key value (incrementFrame counter key value) output
 
 abbrev pub builtRequest : ℕ → List ℕ → List ℕ → List ℕ → Built
-builtRequest counter key tag output =
-    built (buildRefusal counter (length key) (length tag) 12 (length output) 48) (withFront (requestFrame counter key tag) output)
-    output
+builtRequest counter key tag output = builtFrame 3 counter key tag (requestFrame counter key tag) output
 
--- the session key of a root key and key data; a wrong length is refused as in a build
+-- either of types 02 and 03: head and data, and the signature of both
+abbrev pub builtSigned : ℕ → ℕ → List ℕ → List ℕ → List ℕ → Built
+builtSigned type counter key bytes output =
+    builtFrame type counter key bytes (signedBy key (head type counter ++ bytes)) output
+
+-- the session key of a root key and key data, those of type 01; a wrong length is refused as in a build
 abbrev pub derivedKey : List ℕ → List ℕ → List ℕ → Built
 derivedKey root keyData output =
-    built (buildRefusal 0 (length root) (length keyData) 4 0 0) (sessionKey root keyData) output
+    built (buildRefusal 0 (length root) (length keyData) (dataSizeOf 1) 0 0) (newSessionKey root keyData) output

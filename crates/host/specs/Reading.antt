@@ -1,39 +1,53 @@
 -- Document 01, "Reading a reply at the host": the verdict, in order, and the part with the counter bytes. Assumes nothing.
 use Prim.Native.Nat.{ℕ, _%_}
-use mathlib.Core.Bool.{Bool}
-use mathlib.Core.List.{List, []}
+use mathlib.Core.Path.{_≡_}
+use mathlib.Core.Bool.{Bool, not}
+use mathlib.Core.List.{List, [], _∷_}
 use lib.Dec.{eqb}
 use lib.ListN.{length, getD, take, drop}
-use Rattle.words.specs.Choice.{pick}
+use Rattle.words.specs.Rows.{Row, _gives_, firstOf, anyOf}
 use Rattle.words.specs.Table.{field}
 use Rattle.compare.specs.Compare.{sameBytes}
 use Rattle.hmac.specs.Hmac.{HMAC}
 use Rattle.host.specs.declared.Verdict.{Verdict}
 use Rattle.host.specs.declared.Verdict.the-variants.{Refused, Busy, Failed, WrongTag, WrongSignature, Good}
 
--- a reply is status 0, tag 1-12, counter 13-16, signature 17-48; the signature is the HMAC, under the session key, of tag then
--- counter value
-unfoldable pub signatureHolds : List ℕ → List ℕ → Bool
-signatureHolds key reply = sameBytes (field 17 32 reply) (HMAC key (field 1 16 reply))
+-- a reply is status 0, tag 1-12, counter 13-16, signature 17-48
+abbrev pub statusIn : List ℕ → ℕ
+statusIn reply = getD reply 0 0
 
--- status bit 0 set, busy; status not 80h, failed with that status; tag other than sent; signature wrong; else good
-unfoldable pub judged : List ℕ → List ℕ → List ℕ → Verdict
-judged key tag reply =
-    pick (eqb (getD reply 0 0 % 2) 1) Busy
-    (pick (eqb (getD reply 0 0) 0x80)
-    (pick (sameBytes (field 1 12 reply) tag)
-    (pick (signatureHolds key reply) Good WrongSignature)
-    WrongTag)
-    (Failed (getD reply 0 0)))
+-- the signature is the HMAC, under the session key, of tag then counter value
+unfoldable pub replySigned : List ℕ → List ℕ → Bool
+replySigned key reply = sameBytes (field 17 32 reply) (HMAC key (field 1 16 reply))
 
--- 6: a key not 32 bytes, tag not 12. 8: reply not 49 bytes
+-- 6: a key not 32 bytes, tag not 12. 8: reply not 49 bytes. Then: status bit 0 set, busy; status not 80h, failed with that status;
+-- tag other than sent; signature wrong
+abbrev pub readings : List ℕ → List ℕ → List ℕ → List (Row Verdict)
+readings key tag reply =
+    (anyOf (not (eqb (length key) 32) ∷ not (eqb (length tag) 12) ∷ []) gives Refused 6)
+    ∷ (not (eqb (length reply) 49) gives Refused 8)
+    ∷ (eqb (statusIn reply % 2) 1 gives Busy)
+    ∷ (not (eqb (statusIn reply) 0x80) gives Failed (statusIn reply))
+    ∷ (not (sameBytes (field 1 12 reply) tag) gives WrongTag)
+    ∷ (not (replySigned key reply) gives WrongSignature)
+    ∷ []
+
+-- the first of these that holds; else good
 unfoldable pub readReply : List ℕ → List ℕ → List ℕ → Verdict
-readReply key tag reply =
-    pick (eqb (length key) 32)
-    (pick (eqb (length tag) 12)
-    (pick (eqb (length reply) 49) (judged key tag reply) (Refused 8))
-    (Refused 6))
-    (Refused 6)
+readReply key tag reply = firstOf (readings key tag reply) Good
+
+-- the same without its refusals, for key, tag and reply of the right lengths
+unfoldable pub judged : List ℕ → List ℕ → List ℕ → Verdict
+judged key tag reply = firstOf (drop 2 (readings key tag reply)) Good
+
+-- status 80h, the tag sent, and the signature of tag and counter bytes; key, tag and reply of the right lengths
+pub record GoodReply (key tag reply : List ℕ) : Type 0 where
+  pub key-length : length key ≡ 32
+  pub tag-length : length tag ≡ 12
+  pub reply-length : length reply ≡ 49
+  pub status : statusIn reply ≡ 0x80
+  pub same-tag : field 1 12 reply ≡ tag
+  pub signed : field 17 32 reply ≡ HMAC key (field 1 16 reply)
 
 -- the number of a verdict: document 01's for a refusal, 0 for good, and what a C program is told for the others
 abbrev pub numberOf : Verdict → ℕ

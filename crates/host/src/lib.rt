@@ -5,11 +5,12 @@ ghost use mathlib.Core.Path.{_≡_};
 ghost use Prim.Native.Nat.{_+_, _≤_};
 ghost use mathlib.Core.List.{_++_};
 ghost use lib.ListN.{length};
-ghost use Rattle.words.specs.Choice.{pick};
 ghost use Rattle.hmac.specs.Hmac.{HMAC};
+ghost use Rattle.frames.specs.Layout.{layoutOf};
 ghost use Rattle.host.specs.Frames.{head, signedBy, rootKeyFrame};
-ghost use Rattle.host.specs.Reading.{signatureHolds, judged, readReply, partOf};
-ghost use Rattle.host.specs.Building.{buildRefusal, withFront, builtSigned, builtRootKey, builtSessionKey, builtIncrement, builtRequest, derivedKey};
+ghost use Rattle.host.specs.Reading.{replySigned, judged, readReply, partOf};
+ghost use Rattle.host.specs.Building.{buildRefusal, withFront, dataSizeOf, builtSigned};
+ghost use Rattle.host.specs.Building.{Answers, builtRootKey, builtSessionKey, builtIncrement, builtRequest, derivedKey};
 
 // Refusals 5, 6 and 7, in this order.
 fn build_refusal(
@@ -69,8 +70,8 @@ fn build_signed(
     n: usize,
     out: &mut [u8],
 ) -> u32
-    requires { ⌜ n ≤ 12 ⌝ }
-    ensures { λ r. ⌜ (r ≡ builtSigned «frame_type» counter (now (key .entry)) (now («data» .entry)) n (now (out .entry)) .number) × (now (out .exit) ≡ builtSigned «frame_type» counter (now (key .entry)) (now («data» .entry)) n (now (out .entry)) .output) ⌝ }
+    requires { ⌜ (n ≤ 12) × (n ≡ dataSizeOf «frame_type») × (36 + n ≡ layoutOf «frame_type» .size) ⌝ }
+    ensures { λ r. ⌜ Answers (builtSigned «frame_type» counter (now (key .entry)) (now («data» .entry)) (now (out .entry))) r (now (out .exit)) ⌝ }
 {
     let number = build_refusal(counter, key.len(), data.len(), n, out.len(), 36 + n);
     if number != 0 {
@@ -82,21 +83,21 @@ fn build_signed(
 
 // Builds an increment frame, type 02, of the counter data, under the session key.
 pub fn build_increment(counter: u32, key: &[u8], value: &[u8], out: &mut [u8]) -> u32
-    ensures { λ r. ⌜ (r ≡ builtIncrement counter (now (key .entry)) (now (value .entry)) (now (out .entry)) .number) × (now (out .exit) ≡ builtIncrement counter (now (key .entry)) (now (value .entry)) (now (out .entry)) .output) ⌝ }
+    ensures { λ r. ⌜ Answers (builtIncrement counter (now (key .entry)) (now (value .entry)) (now (out .entry))) r (now (out .exit)) ⌝ }
 {
     build_signed(2, counter, key, value, 4, out)
 }
 
 // Builds a request frame, type 03, of a tag, under the session key.
 pub fn build_request(counter: u32, key: &[u8], tag: &[u8], out: &mut [u8]) -> u32
-    ensures { λ r. ⌜ (r ≡ builtRequest counter (now (key .entry)) (now (tag .entry)) (now (out .entry)) .number) × (now (out .exit) ≡ builtRequest counter (now (key .entry)) (now (tag .entry)) (now (out .entry)) .output) ⌝ }
+    ensures { λ r. ⌜ Answers (builtRequest counter (now (key .entry)) (now (tag .entry)) (now (out .entry))) r (now (out .exit)) ⌝ }
 {
     build_signed(3, counter, key, tag, 12, out)
 }
 
 // Builds a session key frame, type 01, of the key data: the root key gives the new session key, which signs it.
 pub fn build_session_key(counter: u32, root: &[u8], key_data: &[u8], out: &mut [u8]) -> u32
-    ensures { λ r. ⌜ (r ≡ builtSessionKey counter (now (root .entry)) (now («key_data» .entry)) (now (out .entry)) .number) × (now (out .exit) ≡ builtSessionKey counter (now (root .entry)) (now («key_data» .entry)) (now (out .entry)) .output) ⌝ }
+    ensures { λ r. ⌜ Answers (builtSessionKey counter (now (root .entry)) (now («key_data» .entry)) (now (out .entry))) r (now (out .exit)) ⌝ }
 {
     let number = build_refusal(counter, root.len(), key_data.len(), 4, out.len(), 40);
     if number != 0 {
@@ -109,7 +110,7 @@ pub fn build_session_key(counter: u32, root: &[u8], key_data: &[u8], out: &mut [
 
 // The session key of a root key and key data, for a host that has no HMAC of its own. Refusal 6.
 pub fn derive_session_key(root: &[u8], key_data: &[u8], out: &mut [u8; 32]) -> u32
-    ensures { λ r. ⌜ (r ≡ derivedKey (now (root .entry)) (now («key_data» .entry)) (now (out .entry)) .number) × (now (out .exit) ≡ derivedKey (now (root .entry)) (now («key_data» .entry)) (now (out .entry)) .output) ⌝ }
+    ensures { λ r. ⌜ Answers (derivedKey (now (root .entry)) (now («key_data» .entry)) (now (out .entry))) r (now (out .exit)) ⌝ }
 {
     let number = build_refusal(0, root.len(), key_data.len(), 4, 0, 0);
     if number != 0 {
@@ -134,9 +135,9 @@ fn put_root(counter: u8, key: &[u8], out: &mut [u8])
 
 // Builds a root key frame, type 00: the key sent, and the last 28 bytes of its signature.
 pub fn build_root_key(counter: u32, key: &[u8], out: &mut [u8]) -> u32
-    ensures { λ r. ⌜ (r ≡ builtRootKey counter (now (key .entry)) (now (out .entry)) .number) × (now (out .exit) ≡ builtRootKey counter (now (key .entry)) (now (out .entry)) .output) ⌝ }
+    ensures { λ r. ⌜ Answers (builtRootKey counter (now (key .entry)) (now (out .entry))) r (now (out .exit)) ⌝ }
 {
-    let number = build_refusal(counter, key.len(), 0, 0, out.len(), 64);
+    let number = build_refusal(counter, key.len(), key.len(), 32, out.len(), 64);
     if number != 0 {
         return number;
     }
@@ -155,23 +156,12 @@ pub enum Verdict {
 }
 
 // Whether the signature of a reply is that of its tag and counter bytes.
-fn signature_holds(key: &[u8], reply: &[u8]) -> bool
+fn reply_signed(key: &[u8], reply: &[u8]) -> bool
     requires { ⌜ (length (now key) ≡ 32) × (length (now reply) ≡ 49) ⌝ }
-    ensures { λ r. ⌜ r ≡ signatureHolds (now (key .entry)) (now (reply .entry)) ⌝ }
+    ensures { λ r. ⌜ r ≡ replySigned (now (key .entry)) (now (reply .entry)) ⌝ }
 {
     let signed = signature(key, &reply[1..17]);
     compare::same(&reply[17..49], &signed)
-}
-
-// The verdict on a reply with the right tag, by its signature.
-fn by_signature(key: &[u8], reply: &[u8]) -> Verdict
-    requires { ⌜ (length (now key) ≡ 32) × (length (now reply) ≡ 49) ⌝ }
-    ensures { λ r. ⌜ r ≡ pick (signatureHolds (now (key .entry)) (now (reply .entry))) Verdict.Good Verdict.WrongSignature ⌝ }
-{
-    if !signature_holds(key, reply) {
-        return Verdict::WrongSignature;
-    }
-    Verdict::Good
 }
 
 // The verdict on a reply, of arguments of the right lengths.
@@ -186,10 +176,13 @@ fn judged(key: &[u8], tag: &[u8], reply: &[u8]) -> Verdict
     if status != 0x80 {
         return Verdict::Failed(status);
     }
-    if compare::same(&reply[1..13], tag) {
-        return by_signature(key, reply);
+    if !compare::same(&reply[1..13], tag) {
+        return Verdict::WrongTag;
     }
-    Verdict::WrongTag
+    if !reply_signed(key, reply) {
+        return Verdict::WrongSignature;
+    }
+    Verdict::Good
 }
 
 // The verdict on a reply to the request with this tag. Refusals 6 and 8.

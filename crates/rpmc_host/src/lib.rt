@@ -2,14 +2,14 @@
 //
 // Each is one call of the host's library, on numbers and byte slices. include/rpmc_host.h says it to C programmers.
 ghost use mathlib.Core.Path.{_≡_};
-ghost use Rattle.host.specs.Building.{builtRootKey, builtSessionKey, builtIncrement, builtRequest, derivedKey};
+ghost use Rattle.host.specs.Building.{Answers, builtRootKey, builtSessionKey, builtIncrement, builtRequest, derivedKey};
 ghost use Rattle.host.specs.Reading.{readReply, numberOf, partOf};
 use host::Verdict;
 
 // A root key frame, type 00.
 #[no_mangle]
 pub extern "C" fn rpmc_build_root_key(counter: u32, root_key: &[u8], frame: &mut [u8]) -> u32
-    ensures { λ r. ⌜ (r ≡ builtRootKey counter (now («root_key» .entry)) (now (frame .entry)) .number) × (now (frame .exit) ≡ builtRootKey counter (now («root_key» .entry)) (now (frame .entry)) .output) ⌝ }
+    ensures { λ r. ⌜ Answers (builtRootKey counter (now («root_key» .entry)) (now (frame .entry))) r (now (frame .exit)) ⌝ }
 {
     host::build_root_key(counter, root_key, frame)
 }
@@ -22,7 +22,7 @@ pub extern "C" fn rpmc_build_session_key(
     key_data: &[u8],
     frame: &mut [u8],
 ) -> u32
-    ensures { λ r. ⌜ (r ≡ builtSessionKey counter (now («root_key» .entry)) (now («key_data» .entry)) (now (frame .entry)) .number) × (now (frame .exit) ≡ builtSessionKey counter (now («root_key» .entry)) (now («key_data» .entry)) (now (frame .entry)) .output) ⌝ }
+    ensures { λ r. ⌜ Answers (builtSessionKey counter (now («root_key» .entry)) (now («key_data» .entry)) (now (frame .entry))) r (now (frame .exit)) ⌝ }
 {
     host::build_session_key(counter, root_key, key_data, frame)
 }
@@ -35,7 +35,7 @@ pub extern "C" fn rpmc_build_increment(
     value: &[u8],
     frame: &mut [u8],
 ) -> u32
-    ensures { λ r. ⌜ (r ≡ builtIncrement counter (now («session_key» .entry)) (now (value .entry)) (now (frame .entry)) .number) × (now (frame .exit) ≡ builtIncrement counter (now («session_key» .entry)) (now (value .entry)) (now (frame .entry)) .output) ⌝ }
+    ensures { λ r. ⌜ Answers (builtIncrement counter (now («session_key» .entry)) (now (value .entry)) (now (frame .entry))) r (now (frame .exit)) ⌝ }
 {
     host::build_increment(counter, session_key, value, frame)
 }
@@ -48,7 +48,7 @@ pub extern "C" fn rpmc_build_request(
     tag: &[u8],
     frame: &mut [u8],
 ) -> u32
-    ensures { λ r. ⌜ (r ≡ builtRequest counter (now («session_key» .entry)) (now (tag .entry)) (now (frame .entry)) .number) × (now (frame .exit) ≡ builtRequest counter (now («session_key» .entry)) (now (tag .entry)) (now (frame .entry)) .output) ⌝ }
+    ensures { λ r. ⌜ Answers (builtRequest counter (now («session_key» .entry)) (now (tag .entry)) (now (frame .entry))) r (now (frame .exit)) ⌝ }
 {
     host::build_request(counter, session_key, tag, frame)
 }
@@ -60,7 +60,7 @@ pub extern "C" fn rpmc_session_key(
     key_data: &[u8],
     session_key: &mut [u8; 32],
 ) -> u32
-    ensures { λ r. ⌜ (r ≡ derivedKey (now («root_key» .entry)) (now («key_data» .entry)) (now («session_key» .entry)) .number) × (now («session_key» .exit) ≡ derivedKey (now («root_key» .entry)) (now («key_data» .entry)) (now («session_key» .entry)) .output) ⌝ }
+    ensures { λ r. ⌜ Answers (derivedKey (now («root_key» .entry)) (now («key_data» .entry)) (now («session_key» .entry))) r (now («session_key» .exit)) ⌝ }
 {
     host::derive_session_key(root_key, key_data, session_key)
 }

@@ -8,7 +8,7 @@ returns : tie.Need-returns
 returns c =
     let unpack = c .before .before .before .before .before .before .unpack in
     let frame = c .before .before .before .before .frame in
-    rw (← unpack .ensures) (rw (← frame .ensures .0) (refl, c .pack .ensures, frame .ensures .1))
+    rw (← unpack .ensures) (rw (← frame .ensures .0) (refl, (c .pack .ensures, frame .ensures .1)))
 
 pub probe-frame-spec : {M : Type 1} → statement M
 probe-frame-spec =

@@ -8,7 +8,7 @@ returns : tie.Need-returns
 returns c =
     let unpack = c .before .before .before .before .before .before .before .unpack in
     let work = c .before .before .before .before .before .work in
-    rw (← unpack .ensures) (rw (← work .ensures .0) (refl, c .before .pack .ensures, refl, work .ensures .1))
+    rw (← unpack .ensures) (rw (← work .ensures .0) (refl, (c .before .pack .ensures, (refl, work .ensures .1))))
 
 pub probe-work-spec : {M : Type 1} → statement M
 probe-work-spec =

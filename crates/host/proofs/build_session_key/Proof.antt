@@ -2,7 +2,7 @@
 use borrow.Author.Needs.{needs}
 use mathlib.Core.Path.{sym, _∙_}
 use native.Mathlib.Omega.{arith}
-use Rattle.host.specs.Frames.{sessionKey, sessionKeyFrame}
+use Rattle.host.specs.Frames.{newSessionKey, sessionKeyFrame}
 use Rattle.host.proofs.Accepted.{accepted, left-as-found, filled-as-built}
 use Rattle.host.proofs.build_session_key.Statement.{statement}
 use Rattle.host.proofs.build_session_key.Tie as tie
@@ -29,7 +29,7 @@ put-signed-requires c κs =
     (omega arith, omega (arith, was .2), omega (arith, was .2, was .3))
 
 returns-2 : tie.Need-returns-2
-unfolding sessionKeyFrame sessionKey
+unfolding sessionKeyFrame newSessionKey
 returns-2 c =
     let if1 = c .before .before .before .before .before .before .if1 in
     let signature = c .before .before .before .before .before .signature in

@@ -7,7 +7,9 @@ use Rattle.host.proofs.build_signed.Statement.{statement}
 use Rattle.host.proofs.build_signed.Tie as tie
 
 returns : tie.Need-returns
-returns c = left-as-found _ _ _ _ (c .before .build-refusal .ensures) (c .if1 .taken)
+returns c =
+    let sizes = c .before .before .before .before .before .pre in
+    rw (← sizes .1, ← sizes .2) (left-as-found _ _ _ _ (c .before .build-refusal .ensures) (c .if1 .taken))
 
 cast-put-signed : tie.Need-cast-put-signed
 cast-put-signed c =
@@ -22,7 +24,9 @@ put-signed-requires c κs =
 returns-2 : tie.Need-returns-2
 returns-2 c =
     let n = c .before .before .before .before .before .build-refusal in
-    filled-as-built _ _ _ _ _ (n .ensures) (c .before .before .before .before .if1 .left) (c .before .before .put-signed .ensures)
+    let sizes = c .before .before .before .before .before .before .before .before .before .pre in
+    rw (← sizes .1, ← sizes .2)
+    (filled-as-built _ _ _ _ _ (n .ensures) (c .before .before .before .before .if1 .left) (c .before .before .put-signed .ensures))
 
 pub build-signed-spec : {M : Type 1} → statement M
 build-signed-spec =

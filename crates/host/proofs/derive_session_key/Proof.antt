@@ -2,7 +2,7 @@
 use borrow.Author.Needs.{needs}
 use mathlib.Core.Path.{sym, _∙_}
 use native.Mathlib.Omega.{arith}
-use Rattle.host.specs.Frames.{sessionKey}
+use Rattle.host.specs.Frames.{newSessionKey}
 use Rattle.host.proofs.Accepted.{accepted, left-as-found, filled-as-built}
 use Rattle.host.proofs.derive_session_key.Statement.{statement}
 use Rattle.host.proofs.derive_session_key.Tie as tie
@@ -16,7 +16,7 @@ signature-requires c κs =
     (was .1, omega (arith, was .2))
 
 returns-2 : tie.Need-returns-2
-unfolding sessionKey
+unfolding newSessionKey
 returns-2 c =
     filled-as-built _ _ _ _ _ (c .before .before .build-refusal .ensures) (c .before .if1 .left) (c .signature .ensures)
 

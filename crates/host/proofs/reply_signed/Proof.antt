@@ -1,13 +1,13 @@
--- `signature_holds` meets its contract. Assumes nothing.
+-- `reply_signed` meets its contract. Assumes nothing.
 use borrow.Author.Needs.{needs}
 use native.Mathlib.Omega.{arith}
 use Rattle.words.proofs.Fields.{field-part}
-use Rattle.host.specs.Reading.{signatureHolds}
-use Rattle.host.proofs.signature_holds.Statement.{statement}
-use Rattle.host.proofs.signature_holds.Tie as tie
+use Rattle.host.specs.Reading.{replySigned}
+use Rattle.host.proofs.reply_signed.Statement.{statement}
+use Rattle.host.proofs.reply_signed.Tie as tie
 
 returns : tie.Need-returns
-unfolding signatureHolds
+unfolding replySigned
 returns c =
     let before = c .before .before .before .before .before .before .before in
     let signature = c .before .before .before .signature in
@@ -21,8 +21,8 @@ returns c =
     )
     (c .same .ensures)
 
-pub signature-holds-spec : {M : Type 1} → statement M
-signature-holds-spec =
+pub reply-signed-spec : {M : Type 1} → statement M
+reply-signed-spec =
     tie.close
     (tie.spec (λ c. search needs) (λ c. search needs) (λ c. search needs) (λ c κs. search needs) (λ c. search needs)
     (λ c. search needs) (λ c. search needs) (λ c. search needs) (λ c κs. search needs) returns)
