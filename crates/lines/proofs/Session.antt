@@ -10,7 +10,7 @@ use Rattle.words.specs.Rows.{firstOf, anyOf}
 use Rattle.image.specs.Refusal.{isSize, refusal}
 use Rattle.frames.specs.Classes.{namedClass, classOf}
 use Rattle.frames.specs.Reading.{readByte, readOutput}
-use Rattle.checks.specs.Checks.{shapeStatus, arrivalStatus}
+use Rattle.checks.specs.Checks.{arrivalStatus}
 use Rattle.jobs.specs.Jobs.{longestOf, longest}
 use Rattle.state.specs.Parts.{powerOn}
 use Rattle.state.specs.Refusal.{isRunning, jobRefusal, deviceRefusal}
@@ -41,5 +41,5 @@ pub session :
     99 ∷ 111 ∷ 117 ∷ 110 ∷ 116 ∷ 101 ∷ 114 ∷ 115 ∷ 32 ∷ 52 ∷ 10 ∷ 80 ∷ 32 ∷ 48 ∷ 10 ∷ 82 ∷ 32 ∷ 48 ∷ 32 ∷ 48 ∷ 48 ∷ 70 ∷ 70 ∷ 10 ∷
     70 ∷ 32 ∷ 48 ∷ 10 ∷ 83 ∷ 32 ∷ 48 ∷ 32 ∷ 48 ∷ 10 ∷ 82 ∷ 32 ∷ 48 ∷ 32 ∷ 48 ∷ 52 ∷ 10 ∷ 70 ∷ 32 ∷ 48 ∷ 10 ∷ 70 ∷ 32 ∷ 48 ∷ 10 ∷
     82 ∷ 32 ∷ 48 ∷ 32 ∷ 48 ∷ 48 ∷ 10 ∷ []
-unfolding conversation lines pick table spread allDigits bytesIn readable Hex.valueOf firstOf anyOf isSize refusal namedClass classOf readByte readOutput shapeStatus arrivalStatus longestOf longest isRunning jobRefusal deviceRefusal statusOnArrival taken arrived withEnabled run within stepsLeft poweredUp afterFrame outputAfterFrame afterSteps afterWork imageAfterWork valueOf withDigit numberUpTo numberIn decimal numberLine workLine readLine firstImage countLine powered framed worked read opens alone turned
+unfolding conversation lines pick table spread allDigits bytesIn readable Hex.valueOf firstOf anyOf isSize refusal namedClass classOf readByte readOutput arrivalStatus longestOf longest isRunning jobRefusal deviceRefusal statusOnArrival taken arrived withEnabled run within stepsLeft poweredUp afterFrame outputAfterFrame afterSteps afterWork imageAfterWork valueOf withDigit numberUpTo numberIn decimal numberLine workLine readLine firstImage countLine powered framed worked read opens alone turned
 session = refl

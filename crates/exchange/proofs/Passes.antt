@@ -6,30 +6,24 @@ use mathlib.Core.Bool.{true}
 use mathlib.Core.List.{List, [], _++_}
 use native.Mathlib.Omega.{arith}
 use lib.ListN.{length}
-use Rattle.words.specs.Choice.{pick}
 use Rattle.words.proofs.Table.{length-table}
 use Rattle.words.specs.Table.{field}
 use Rattle.words.proofs.Fields.{field-between, field-behind}
 use Rattle.compare.specs.Compare.{sameBytes}
 use Rattle.compare.proofs.Agree.{same-self}
 use Rattle.hmac.specs.Hmac.{HMAC}
-use Rattle.jobs.specs.declared.Command.{Command}
 use Rattle.jobs.specs.declared.Command.the-variants.{WriteRootKey, UpdateSessionKey, IncrementCounter, RequestCounter}
 use Rattle.image.specs.Slot.{rootKey}
-use Rattle.decision.specs.Signature.{signatureHolds, signatureStatus}
-use Rattle.rules.specs.Whole.{frameKept, signature, keyIn}
-use Rattle.device.specs.Work.{Device}
-use Rattle.host.specs.Frames.{head, signedBy, sessionKey, rootKeyFrame, sessionKeyFrame, incrementFrame, requestFrame}
-use Rattle.ends.proofs.Fields.{kept-field, counter-sent, front-sent, data-sent, signature-sent}
-
--- check 8 of a frame that has this signature
-abbrev Passes : Command → Device → List ℕ → Type 0
-Passes command d frame = signatureStatus command (frameKept frame) (signature command d frame) ≡ 0
+use Rattle.decision.specs.Signature.{signatureHolds}
+use Rattle.rules.specs.Whole.{Outcome, frameKept, keyIn}
+use Rattle.host.specs.Frames.{head, signedBy, newSessionKey, rootKeyFrame, sessionKeyFrame, incrementFrame, requestFrame}
+use Rattle.exchange.specs.Passing.{Passes}
+use Rattle.exchange.proofs.Fields.{kept-field, counter-sent, front-sent, data-sent, signature-sent}
 
 -- type 00, whatever the device
-pub root-key-passes : (d : Device) (counter : ℕ) (key : List ℕ) → length key ≡ 32 → Passes WriteRootKey d (rootKeyFrame counter key)
-unfolding signatureStatus signatureHolds rootKeyFrame pick
-root-key-passes d counter key size =
+pub root-key-passes : (o : Outcome) (counter : ℕ) (key : List ℕ) → length key ≡ 32 → Passes WriteRootKey o (rootKeyFrame counter key)
+unfolding signatureHolds rootKeyFrame
+root-key-passes o counter key size =
     let frame = rootKeyFrame counter key in
     let digest = HMAC key (head 0 counter) in
     let key-sent : field 4 32 (frameKept frame) ≡ key =
@@ -55,11 +49,11 @@ same-sent key type counter bytes n size fits =
 
 -- type 01, built with the root key in use
 pub session-key-passes :
-    (d : Device) (counter : ℕ) (keyData : List ℕ) → length keyData ≡ 4 →
-    Passes UpdateSessionKey d (sessionKeyFrame counter (rootKey (d .image) counter) keyData)
-unfolding signatureStatus signatureHolds sessionKeyFrame sessionKey pick
-session-key-passes d counter keyData size =
-    let key = HMAC (rootKey (d .image) counter) keyData in
+    (o : Outcome) (counter : ℕ) (keyData : List ℕ) → length keyData ≡ 4 →
+    Passes UpdateSessionKey o (sessionKeyFrame counter (rootKey (o .image) counter) keyData)
+unfolding signatureHolds sessionKeyFrame newSessionKey
+session-key-passes o counter keyData size =
+    let key = HMAC (rootKey (o .image) counter) keyData in
     rw (
       counter-sent key 1 counter keyData 4 size (omega arith),
       data-sent key 1 counter keyData 4 size (omega arith),
@@ -68,15 +62,15 @@ session-key-passes d counter keyData size =
 
 -- types 02 and 03, built with the counter's session key
 pub increment-passes :
-    (d : Device) (counter : ℕ) (key value : List ℕ) → length value ≡ 4 →
-    keyIn d (incrementFrame counter key value) ≡ key → Passes IncrementCounter d (incrementFrame counter key value)
-unfolding signatureStatus signatureHolds incrementFrame pick
-increment-passes d counter key value size same =
+    (o : Outcome) (counter : ℕ) (key value : List ℕ) → length value ≡ 4 →
+    keyIn o (incrementFrame counter key value) .bytes ≡ key → Passes IncrementCounter o (incrementFrame counter key value)
+unfolding signatureHolds incrementFrame
+increment-passes o counter key value size same =
     rw (same, same-sent key 2 counter value 4 size (omega arith))
 
 pub request-passes :
-    (d : Device) (counter : ℕ) (key tag : List ℕ) → length tag ≡ 12 →
-    keyIn d (requestFrame counter key tag) ≡ key → Passes RequestCounter d (requestFrame counter key tag)
-unfolding signatureStatus signatureHolds requestFrame pick
-request-passes d counter key tag size same =
+    (o : Outcome) (counter : ℕ) (key tag : List ℕ) → length tag ≡ 12 →
+    keyIn o (requestFrame counter key tag) .bytes ≡ key → Passes RequestCounter o (requestFrame counter key tag)
+unfolding signatureHolds requestFrame
+request-passes o counter key tag size same =
     rw (same, same-sent key 3 counter tag 12 size (omega arith))

@@ -7,6 +7,7 @@ use native.Mathlib.Omega.{arith}
 use borrow.Author.Tests.{lt-ltb, ne-eqb}
 use lib.ListN.{length, getD, length-append}
 use Rattle.words.specs.Choice.{pick}
+use Rattle.words.specs.Rows.{firstOf}
 use Rattle.words.specs.Words.{bytesOf}
 use Rattle.words.proofs.Table.{length-table, table-same, getD-table}
 use Rattle.words.specs.Table.{field}
@@ -18,14 +19,14 @@ use Rattle.frames.specs.Reading.{readByte, readOutput}
 use Rattle.jobs.specs.Jobs.{kindOf}
 use Rattle.jobs.specs.declared.Kind.the-variants.{Request}
 use Rattle.decision.specs.Decision.{decision}
-use Rattle.rules.specs.Whole.{frameKept, statusOnArrival, kindIn, valueIn, allChecks, carriedOut, whole, keyIn, lastStatus}
-use Rattle.device.specs.Work.{Device}
+use Rattle.rules.proofs.TenChecks.{all-checks}
+use Rattle.rules.specs.Whole.{Outcome, frameKept, statusOnArrival, kindIn, valueIn, allChecks, carriedOut, whole, keyIn, lastStatus}
 use Rattle.host.specs.Frames.{signedBy, requestFrame}
 use Rattle.host.specs.declared.Verdict.the-variants.{Good}
-use Rattle.host.specs.Reading.{readReply, partOf}
-use Rattle.host.proofs.Verdicts.{GoodReply, good-read}
-use Rattle.ends.proofs.Fields.{data-sent}
-use Rattle.ends.proofs.Passes.{request-passes}
+use Rattle.host.specs.Reading.{readReply, GoodReply, partOf}
+use Rattle.host.proofs.Verdicts.{good-read}
+use Rattle.exchange.proofs.Fields.{data-sent}
+use Rattle.exchange.proofs.Passes.{request-passes}
 
 abbrev shown : List ℕ → Reply
 shown bytes = record { there = true; bytes = bytes }
@@ -83,26 +84,26 @@ module _ (key tag : List ℕ) (value : ℕ) (long : length key ≡ 32) (size : l
 
 -- a request that the host built with the counter's session key, and that checks 1 to 7 let through
 module _
-    (d : Device) (counter : ℕ) (key tag : List ℕ) (long : length key ≡ 32) (size : length tag ≡ 12)
-    (same : keyIn d (requestFrame counter key tag) ≡ key)
-    (taken : statusOnArrival (d .image) (d .state .keys) (requestFrame counter key tag) ≡ 0) where
+    (o : Outcome) (counter : ℕ) (key tag : List ℕ) (long : length key ≡ 32) (size : length tag ≡ 12)
+    (same : keyIn o (requestFrame counter key tag) .bytes ≡ key)
+    (taken : statusOnArrival (o .image) (o .keys) (requestFrame counter key tag) ≡ 0) where
   abbrev frame : List ℕ
   frame = requestFrame counter key tag
 
-  kind-asked : kindIn d frame ≡ Request
+  kind-asked : kindIn o frame ≡ Request
   unfolding requestFrame signedBy kindOf pick
   kind-asked = refl
 
-  no-check-fails : allChecks d frame ≡ 0
-  unfolding allChecks lastStatus decision pick
-  no-check-fails = rw (taken, kind-asked, request-passes d counter key tag size same)
+  no-check-fails : allChecks o frame ≡ 0
+  unfolding lastStatus decision firstOf pick
+  no-check-fails = rw (all-checks o frame, taken, kind-asked, request-passes o counter key tag size same)
 
   tag-kept : field 4 12 (frameKept frame) ≡ tag
   unfolding requestFrame
   tag-kept = data-sent key 3 counter tag 12 size (omega arith)
 
   -- its whole-frame result: 80h, and the reply
-  answered : (whole d frame .status ≡ 0x80) × (whole d frame .reply ≡ shown (reply key tag (valueIn d frame) long size))
+  answered : (whole o frame .status ≡ 0x80) × (whole o frame .reply ≡ shown (reply key tag (valueIn o frame) long size))
   unfolding whole carriedOut pick
   answered =
       rw (no-check-fails, kind-asked)
@@ -110,15 +111,15 @@ module _
 
   -- what a read of 49 bytes gives then
   abbrev pub reading : List ℕ
-  reading = readOutput false (whole d frame .status) (whole d frame .reply) 49
+  reading = readOutput false (whole o frame .status) (whole o frame .reply) 49
 
-  as-read : reading ≡ readBack (reply key tag (valueIn d frame) long size)
+  as-read : reading ≡ readBack (reply key tag (valueIn o frame) long size)
   as-read = rw (answered .0, answered .1)
 
   -- is read as good,
   pub read-as-good : readReply key tag reading ≡ Good
-  read-as-good = rw as-read (good-read key tag _ (good key tag (valueIn d frame) long size))
+  read-as-good = rw as-read (good-read key tag _ (good key tag (valueIn o frame) long size))
 
   -- and the part is the device's counter value
-  pub value-handed-back : partOf (readReply key tag reading) reading ≡ bytesOf (valueIn d frame)
-  value-handed-back = rw (read-as-good, as-read) (part-back key tag (valueIn d frame) long size)
+  pub value-handed-back : partOf (readReply key tag reading) reading ≡ bytesOf (valueIn o frame)
+  value-handed-back = rw (read-as-good, as-read) (part-back key tag (valueIn o frame) long size)

@@ -1,0 +1,2 @@
+-- What it is that a frame passes the check of its signature.
+pub mod Passing
