@@ -18,11 +18,11 @@ unfoldable pub jobOf : List ℕ → List ℕ → Job
 jobOf image frame =
     record {
       there = true;
-      kind = kindOf (typeOf frame) (isTemporary (frameKept frame)) (slotOf image (counterOf frame) .counter);
+      kind = kindOf (typeOf frame) (isTemporary (frameKept frame)) (slotOf image (counterOf frame) .«counter_state»);
       counter = counterOf frame;
       step = 0;
       frame = frameKept frame;
-      root = rootKey image (counterOf frame);
+      «root_key» = rootKey image (counterOf frame);
       made = replicate 32 0;
       inner = replicate 8 0;
       kept = 0;

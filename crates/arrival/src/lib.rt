@@ -43,15 +43,15 @@ fn job_of(image: &[u8], frame: &[u8]) -> Job
     let counter = words::byte(frame, 2);
     let kept = frame_kept(frame);
     let slot = image::slot_of(image, counter);
-    let root = image::root_key(image, counter);
-    let kind = jobs::kind_of(words::byte(frame, 1), is_temporary(kept), slot.counter);
+    let root_key = image::root_key(image, counter);
+    let kind = jobs::kind_of(words::byte(frame, 1), is_temporary(kept), slot.counter_state);
     Job {
         there: true,
         kind,
         counter,
         step: 0,
         frame: kept,
-        root,
+        root_key,
         made: [0u8; 32],
         inner: [0u32; 8],
         kept: 0,

@@ -13,11 +13,11 @@ use Rattle.frames.specs.Layout.{layoutOf, typeOf, counterOf, reservedOf}
 
 -- 6. type 00 with root set, or type 01 with counter unset
 abbrev pub wrongState : ℕ → Slot → Bool
-wrongState type slot = pick (eqb type 0) (isSet (slot .root)) (pick (eqb type 1) (not (isSet (slot .counter))) false)
+wrongState type slot = pick (eqb type 0) (isSet (slot .«root_state»)) (pick (eqb type 1) (not (isSet (slot .«counter_state»))) false)
 
 -- 7. types 02, 03 with counter unset or no session key
 abbrev pub notReady : ℕ → Slot → Bool → Bool
-notReady type slot hasKey = pick (ltb 1 type) (pick (isSet (slot .counter)) (not hasKey) true) false
+notReady type slot hasKey = pick (ltb 1 type) (pick (isSet (slot .«counter_state»)) (not hasKey) true) false
 
 -- 1. type above 03. 2. wrong length. 3. reserved byte not 0. 4. counter not below the count, first of type 00, then of the others.
 -- 5. bad slot. 6 and 7

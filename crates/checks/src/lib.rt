@@ -30,10 +30,10 @@ fn wrong_state(frame_type: u8, slot: Slot) -> bool
     ensures { λ r. ⌜ r ≡ wrongState «frame_type» slot ⌝ }
 {
     if frame_type == 0 {
-        return slot.root == 0;
+        return slot.root_state == 0;
     }
     if frame_type == 1 {
-        return slot.counter != 0;
+        return slot.counter_state != 0;
     }
     false
 }
@@ -45,7 +45,7 @@ fn not_ready(frame_type: u8, slot: Slot, has_key: bool) -> bool
     if frame_type <= 1 {
         return false;
     }
-    if slot.counter != 0 {
+    if slot.counter_state != 0 {
         return true;
     }
     !has_key

@@ -5,7 +5,7 @@ use mathlib.Core.List.{List}
 use lib.ListN.{length}
 use Rattle.words.specs.Choice.{pick}
 use Rattle.frames.specs.declared.Class.{Class}
-use Rattle.frames.specs.declared.Class.the-variants.{Empty, EnableReset, Reset, Read, Command, Unnamed}
+use Rattle.frames.specs.declared.Class.the-variants.{Empty, EnableReset, Reset, Read, Unnamed, CommandFrame}
 use Rattle.frames.specs.Reading.{readOutput}
 use Rattle.state.specs.declared.State.{State}
 use Rattle.state.specs.Parts.{powerOn}
@@ -30,7 +30,7 @@ stateAfter Empty image s frame = s
 stateAfter EnableReset image s frame = withEnabled s true
 stateAfter Reset image s frame = pick (s .enabled) powerOn (withEnabled s false)
 stateAfter Read image s frame = withEnabled s false
-stateAfter Command image s frame = pick (s .job .there) (withEnabled s false) (arrived image s frame)
+stateAfter CommandFrame image s frame = pick (s .job .there) (withEnabled s false) (arrived image s frame)
 stateAfter Unnamed image s frame = withEnabled s false
 
 -- the read fills the whole output buffer; no other frame writes output
@@ -39,5 +39,5 @@ outputAfter Empty s output = output
 outputAfter EnableReset s output = output
 outputAfter Reset s output = output
 outputAfter Read s output = readOutput (s .job .there) (s .status) (s .reply) (length output)
-outputAfter Command s output = output
+outputAfter CommandFrame s output = output
 outputAfter Unnamed s output = output

@@ -45,7 +45,7 @@ fn after_reset(s: State) -> State
 
 // The state after a command frame: ignored while busy, else taken.
 fn after_command(image: &[u8], s: State, frame: &[u8]) -> State
-    ensures { λ r. ⌜ r ≡ stateAfter Class.Command (now (image .entry)) s (now (frame .entry)) ⌝ }
+    ensures { λ r. ⌜ r ≡ stateAfter Class.CommandFrame (now (image .entry)) s (now (frame .entry)) ⌝ }
 {
     let job = s.job;
     if job.there {
@@ -63,7 +63,7 @@ fn state_after(class: Class, image: &[u8], s: State, frame: &[u8]) -> State
         Class::EnableReset => with_enabled(s, true),
         Class::Reset => after_reset(s),
         Class::Read => with_enabled(s, false),
-        Class::Command => after_command(image, s, frame),
+        Class::CommandFrame => after_command(image, s, frame),
         Class::Unnamed => with_enabled(s, false),
     }
 }
@@ -81,7 +81,7 @@ fn put_output(class: Class, s: State, output: &mut [u8])
             let reply = s.reply;
             frames::fill_read(job.there, s.status, reply, output);
         }
-        Class::Command => {}
+        Class::CommandFrame => {}
         Class::Unnamed => {}
     }
 }

@@ -5,7 +5,7 @@ use lib.Dec.{ltb, eqb}
 use lib.ListN.{length, getD}
 use Rattle.words.specs.Choice.{pick}
 use Rattle.frames.specs.declared.Class.{Class}
-use Rattle.frames.specs.declared.Class.the-variants.{Empty, EnableReset, Reset, Read, Command, Unnamed}
+use Rattle.frames.specs.declared.Class.the-variants.{Empty, EnableReset, Reset, Read, Unnamed, CommandFrame}
 
 -- 66h, one byte: reset enabled. 99h, one byte: the reset, if enabled
 -- 96h and one dummy byte: the read
@@ -15,7 +15,7 @@ namedClass first size =
     pick (eqb first 0x66) (pick (eqb size 1) EnableReset Unnamed)
     (pick (eqb first 0x99) (pick (eqb size 1) Reset Unnamed)
     (pick (eqb first 0x96) (pick (eqb size 2) Read Unnamed)
-    (pick (eqb first 0x9B) (pick (ltb 1 size) Command Unnamed)
+    (pick (eqb first 0x9B) (pick (ltb 1 size) CommandFrame Unnamed)
     Unnamed)))
 
 -- an empty frame is a class of its own: nothing changes at all

@@ -7,9 +7,9 @@ use Rattle.words.specs.Table.{field}
 
 -- whose key signs a frame
 pub data Signer : Type 0 where
-  KeySent : Signer
-  NewSessionKey : Signer
-  SessionKey : Signer
+  BySentKey : Signer
+  ByNewSessionKey : Signer
+  BySessionKey : Signer
 
 -- a row: the frame's length; where the signature stands, behind the other fields; how many front bytes are signed; how many of the
 -- signature's 32 bytes are sent, the last ones; and whose key signs
@@ -27,15 +27,15 @@ row size at signed sent signer = record { size = size; at = at; signed = signed;
 -- 02 increment: 4-7 counter data, 8-39 signature. 03 request: 4-15 tag, 16-47 signature
 abbrev pub layouts : List Layout
 layouts =
-    row 64 36 4 28 KeySent
-    ∷ row 40 8 8 32 NewSessionKey
-    ∷ row 40 8 8 32 SessionKey
-    ∷ row 48 16 16 32 SessionKey
+    row 64 36 4 28 BySentKey
+    ∷ row 40 8 8 32 ByNewSessionKey
+    ∷ row 40 8 8 32 BySessionKey
+    ∷ row 48 16 16 32 BySessionKey
     ∷ []
 
 -- the row of a type; there is none above 03
 abbrev pub layoutOf : ℕ → Layout
-layoutOf type = getD layouts type (row 0 0 0 0 SessionKey)
+layoutOf type = getD layouts type (row 0 0 0 0 BySessionKey)
 
 abbrev pub typeOf : List ℕ → ℕ
 typeOf frame = getD frame 1 0

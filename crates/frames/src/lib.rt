@@ -12,7 +12,7 @@ pub enum Class {
     EnableReset,
     Reset,
     Read,
-    Command,
+    CommandFrame,
     Unnamed,
 }
 
@@ -40,7 +40,7 @@ fn named_class(first: u8, size: usize) -> Class
     }
     if first == 0x9B {
         if 1 < size {
-            return Class::Command;
+            return Class::CommandFrame;
         }
         return Class::Unnamed;
     }

@@ -9,8 +9,7 @@ ghost use Rattle.hmac.specs.Hmac.{HMAC};
 ghost use Rattle.frames.specs.Layout.{layoutOf};
 ghost use Rattle.host.specs.Frames.{head, signedBy, rootKeyFrame};
 ghost use Rattle.host.specs.Reading.{replySigned, judged, readReply, partOf};
-ghost use Rattle.host.specs.Building.{buildRefusal, withFront, dataSizeOf, builtSigned};
-ghost use Rattle.host.specs.Building.{Answers, builtRootKey, builtSessionKey, builtIncrement, builtRequest, derivedKey};
+ghost use Rattle.host.specs.Building.{buildRefusal, withFront, dataSizeOf, builtSigned, Answers, builtRootKey, builtSessionKey, builtIncrement, builtRequest, derivedKey};
 
 // Refusals 5, 6 and 7, in this order.
 fn build_refusal(

@@ -38,11 +38,11 @@ module _ (image : List ℕ) (c : ℕ) (laid : Laid image) (below : c < count ima
   front-room : slotAt image c + 48 ≤ length image
   front-room = omega (arith, room image c laid below, wide image laid)
 
-  pub root-in : slotOf image c .root ≡ wordAt (slotBytes image c) 0
+  pub root-in : slotOf image c .«root_state» ≡ wordAt (slotBytes image c) 0
   unfolding slotOf
   root-in = ap (wordOr0 image) (omega arith) ∙ word-in image (slotAt image c) 0 (omega arith) front-room
 
-  pub counter-in : slotOf image c .counter ≡ wordAt (slotBytes image c) 4
+  pub counter-in : slotOf image c .«counter_state» ≡ wordAt (slotBytes image c) 4
   unfolding slotOf
   counter-in = word-in image (slotAt image c) 4 (omega arith) front-room
 

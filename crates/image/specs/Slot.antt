@@ -14,8 +14,8 @@ use Rattle.image.specs.Header.{slotAt}
 unfoldable pub slotOf : List ℕ → ℕ → Slot
 slotOf image counter =
     record {
-      root = wordOr0 image (slotAt image counter);
-      counter = wordOr0 image (slotAt image counter + 4);
+      «root_state» = wordOr0 image (slotAt image counter);
+      «counter_state» = wordOr0 image (slotAt image counter + 4);
       value = wordOr0 image (slotAt image counter + 8);
     }
 
@@ -32,15 +32,15 @@ isState word = pick (isSet word) true (eqb word unset)
 -- a slot is bad if a state word is neither of the two, or if root is set and counter is not
 unfoldable pub isBad : Slot → Bool
 isBad slot =
-    pick (isState (slot .root))
-    (pick (isState (slot .counter))
-    (pick (isSet (slot .root)) (not (isSet (slot .counter))) false)
+    pick (isState (slot .«root_state»))
+    (pick (isState (slot .«counter_state»))
+    (pick (isSet (slot .«root_state»)) (not (isSet (slot .«counter_state»))) false)
     true)
     true
 
 -- slot: 16-47 root key. While the root state is not set, the root key in use is 32 bytes of FFh, no matter what the slot holds
 unfoldable pub rootKey : List ℕ → ℕ → List ℕ
 rootKey image counter =
-    pick (isSet (slotOf image counter .root))
+    pick (isSet (slotOf image counter .«root_state»))
     (field (slotAt image counter + 16) 32 image)
     (replicate 32 255)

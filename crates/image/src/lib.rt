@@ -8,8 +8,8 @@ ghost use Rattle.image.specs.Slot.{slotOf, isState, isBad, rootKey};
 
 // The three words of a slot that are no key.
 pub struct Slot {
-    pub root: u32,
-    pub counter: u32,
+    pub root_state: u32,
+    pub counter_state: u32,
     pub value: u32,
 }
 
@@ -87,8 +87,8 @@ pub fn slot_of(image: &[u8], counter: u8) -> Slot
 {
     let at = slot_at(image, counter);
     Slot {
-        root: words::get(image, at),
-        counter: words::get(image, at + 4),
+        root_state: words::get(image, at),
+        counter_state: words::get(image, at + 4),
         value: words::get(image, at + 8),
     }
 }
@@ -107,8 +107,8 @@ fn is_state(word: u32) -> bool
 pub fn is_bad(slot: Slot) -> bool
     ensures { λ r. ⌜ r ≡ isBad slot ⌝ }
 {
-    let root = slot.root;
-    let counter = slot.counter;
+    let root = slot.root_state;
+    let counter = slot.counter_state;
     if is_state(root) {
         if is_state(counter) {
             return root == 0 && counter != 0;

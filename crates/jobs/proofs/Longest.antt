@@ -4,7 +4,7 @@ use Prim.Native.Nat.{_<_, _≤_}
 use mathlib.Core.Path.{_≡_, refl}
 use native.Mathlib.Omega.{arith}
 use Rattle.jobs.specs.declared.Kind.{Kind}
-use Rattle.jobs.specs.declared.Kind.the-variants.{RootKeyAndCounter, RootKey, CounterOnly, Nothing, SessionKey, Increment, Request}
+use Rattle.jobs.specs.declared.Kind.the-variants.{RootKeyAndCounter, RootKey, SessionKey, Increment, Request, TemporaryKeyAndCounter, TemporaryKey}
 use Rattle.jobs.specs.Jobs.{lengthOf, longestOf, longest}
 
 -- "busy clears after at most 15 steps"
@@ -15,8 +15,8 @@ longest-is = refl
 pub at-most : (kind : Kind) → lengthOf kind ≤ longest
 at-most RootKeyAndCounter = omega (arith, longest-is)
 at-most RootKey = omega (arith, longest-is)
-at-most CounterOnly = omega (arith, longest-is)
-at-most Nothing = omega (arith, longest-is)
+at-most TemporaryKeyAndCounter = omega (arith, longest-is)
+at-most TemporaryKey = omega (arith, longest-is)
 at-most SessionKey = omega (arith, longest-is)
 at-most Increment = omega (arith, longest-is)
 at-most Request = omega (arith, longest-is)
@@ -24,8 +24,8 @@ at-most Request = omega (arith, longest-is)
 pub some-steps : (kind : Kind) → 0 < lengthOf kind
 some-steps RootKeyAndCounter = omega arith
 some-steps RootKey = omega arith
-some-steps CounterOnly = omega arith
-some-steps Nothing = omega arith
+some-steps TemporaryKeyAndCounter = omega arith
+some-steps TemporaryKey = omega arith
 some-steps SessionKey = omega arith
 some-steps Increment = omega arith
 some-steps Request = omega arith

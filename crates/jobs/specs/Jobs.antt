@@ -8,21 +8,21 @@ use Rattle.image.specs.Slot.{isSet}
 use Rattle.jobs.specs.declared.Command.{Command}
 use Rattle.jobs.specs.declared.Command.the-variants.{WriteRootKey, UpdateSessionKey, IncrementCounter, RequestCounter}
 use Rattle.jobs.specs.declared.Kind.{Kind}
-use Rattle.jobs.specs.declared.Kind.the-variants.{RootKeyAndCounter, RootKey, CounterOnly, Nothing, SessionKey, Increment, Request}
+use Rattle.jobs.specs.declared.Kind.the-variants.{RootKeyAndCounter, RootKey, SessionKey, Increment, Request, TemporaryKeyAndCounter, TemporaryKey}
 
 -- how many steps a kind of job takes if no check fails
 abbrev pub lengthOf : Kind → ℕ
 lengthOf RootKeyAndCounter = 15
 lengthOf RootKey = 13
-lengthOf CounterOnly = 6
-lengthOf Nothing = 4
+lengthOf TemporaryKeyAndCounter = 6
+lengthOf TemporaryKey = 4
 lengthOf SessionKey = 8
 lengthOf Increment = 5
 lengthOf Request = 8
 
 -- all kinds of job
 abbrev pub kinds : List Kind
-kinds = RootKeyAndCounter ∷ RootKey ∷ CounterOnly ∷ Nothing ∷ SessionKey ∷ Increment ∷ Request ∷ []
+kinds = RootKeyAndCounter ∷ RootKey ∷ TemporaryKeyAndCounter ∷ TemporaryKey ∷ SessionKey ∷ Increment ∷ Request ∷ []
 
 -- the largest of the lengths of some kinds
 unfoldable pub longestOf : List Kind → ℕ
@@ -37,8 +37,8 @@ longest = longestOf kinds
 abbrev pub commandOf : Kind → Command
 commandOf RootKeyAndCounter = WriteRootKey
 commandOf RootKey = WriteRootKey
-commandOf CounterOnly = WriteRootKey
-commandOf Nothing = WriteRootKey
+commandOf TemporaryKeyAndCounter = WriteRootKey
+commandOf TemporaryKey = WriteRootKey
 commandOf SessionKey = UpdateSessionKey
 commandOf Increment = IncrementCounter
 commandOf Request = RequestCounter
@@ -66,12 +66,12 @@ hashSteps RequestCounter = 8
 
 -- the kind of a root key frame: whether the key is all FFh, and the counter's state word
 unfoldable pub rootKind : Bool → ℕ → Kind
-rootKind temporary counter =
-    pick temporary (pick (isSet counter) Nothing CounterOnly) (pick (isSet counter) RootKey RootKeyAndCounter)
+rootKind temporary counterState =
+    pick temporary (pick (isSet counterState) TemporaryKey TemporaryKeyAndCounter) (pick (isSet counterState) RootKey RootKeyAndCounter)
 
 -- the kind of job that a frame starts, by its type
 unfoldable pub kindOf : ℕ → Bool → ℕ → Kind
-kindOf type temporary counter =
-    pick (eqb type 0) (rootKind temporary counter)
+kindOf type temporary counterState =
+    pick (eqb type 0) (rootKind temporary counterState)
     (pick (eqb type 1) SessionKey
     (pick (eqb type 2) Increment Request))

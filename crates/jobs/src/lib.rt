@@ -4,13 +4,13 @@
 ghost use mathlib.Core.Path.{_≡_};
 ghost use Rattle.jobs.specs.Jobs.{lengthOf, commandOf, signatureSteps, hashSteps, rootKind, kindOf};
 
-// The kinds of job, named by what they do after the signature: store a root key and set the counter, store a root key, set the
-// counter, store nothing (these four are root key frames), make a session key, increment, answer a request.
+// The kinds of job: four of root key frames, by the key (a root key, or the temporary one, which is all FFh and is not stored) and
+// by whether the counter is set with it; then a session key, an increment, a request.
 pub enum Kind {
     RootKeyAndCounter,
     RootKey,
-    CounterOnly,
-    Nothing,
+    TemporaryKeyAndCounter,
+    TemporaryKey,
     SessionKey,
     Increment,
     Request,
@@ -31,8 +31,8 @@ pub fn length_of(kind: Kind) -> u8
     match kind {
         Kind::RootKeyAndCounter => 15,
         Kind::RootKey => 13,
-        Kind::CounterOnly => 6,
-        Kind::Nothing => 4,
+        Kind::TemporaryKeyAndCounter => 6,
+        Kind::TemporaryKey => 4,
         Kind::SessionKey => 8,
         Kind::Increment => 5,
         Kind::Request => 8,
@@ -46,8 +46,8 @@ pub fn command_of(kind: Kind) -> Command
     match kind {
         Kind::RootKeyAndCounter => Command::WriteRootKey,
         Kind::RootKey => Command::WriteRootKey,
-        Kind::CounterOnly => Command::WriteRootKey,
-        Kind::Nothing => Command::WriteRootKey,
+        Kind::TemporaryKeyAndCounter => Command::WriteRootKey,
+        Kind::TemporaryKey => Command::WriteRootKey,
         Kind::SessionKey => Command::UpdateSessionKey,
         Kind::Increment => Command::IncrementCounter,
         Kind::Request => Command::RequestCounter,
@@ -79,27 +79,27 @@ pub fn hash_steps(command: Command) -> u8
 }
 
 // The kind of job of a root key frame: `temporary` says that its key is all FFh.
-fn root_kind(temporary: bool, counter: u32) -> Kind
-    ensures { λ r. ⌜ r ≡ rootKind temporary counter ⌝ }
+fn root_kind(temporary: bool, counter_state: u32) -> Kind
+    ensures { λ r. ⌜ r ≡ rootKind temporary «counter_state» ⌝ }
 {
     if temporary {
-        if counter == 0 {
-            return Kind::Nothing;
+        if counter_state == 0 {
+            return Kind::TemporaryKey;
         }
-        return Kind::CounterOnly;
+        return Kind::TemporaryKeyAndCounter;
     }
-    if counter == 0 {
+    if counter_state == 0 {
         return Kind::RootKey;
     }
     Kind::RootKeyAndCounter
 }
 
 // The kind of job that a frame of a type starts.
-pub fn kind_of(frame_type: u8, temporary: bool, counter: u32) -> Kind
-    ensures { λ r. ⌜ r ≡ kindOf «frame_type» temporary counter ⌝ }
+pub fn kind_of(frame_type: u8, temporary: bool, counter_state: u32) -> Kind
+    ensures { λ r. ⌜ r ≡ kindOf «frame_type» temporary «counter_state» ⌝ }
 {
     if frame_type == 0 {
-        return root_kind(temporary, counter);
+        return root_kind(temporary, counter_state);
     }
     if frame_type == 1 {
         return Kind::SessionKey;

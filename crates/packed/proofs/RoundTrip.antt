@@ -6,7 +6,7 @@ use mathlib.Core.List.{[], _∷_}
 use Rattle.words.specs.Choice.{pick}
 use Rattle.words.specs.Table.{table, spread}
 use Rattle.jobs.specs.declared.Kind.{Kind}
-use Rattle.jobs.specs.declared.Kind.the-variants.{RootKeyAndCounter, RootKey, CounterOnly, Nothing, SessionKey, Increment, Request}
+use Rattle.jobs.specs.declared.Kind.the-variants.{RootKeyAndCounter, RootKey, SessionKey, Increment, Request, TemporaryKeyAndCounter, TemporaryKey}
 use Rattle.state.specs.declared.State.{State}
 use Rattle.packed.specs.Codes.{kindByte, kindOf}
 use Rattle.packed.specs.Packed.{packed}
@@ -16,8 +16,8 @@ kind-comes-back : (k : Kind) → kindOf (kindByte k) ≡ k
 unfolding kindOf pick
 kind-comes-back RootKeyAndCounter = refl
 kind-comes-back RootKey = refl
-kind-comes-back CounterOnly = refl
-kind-comes-back Nothing = refl
+kind-comes-back TemporaryKeyAndCounter = refl
+kind-comes-back TemporaryKey = refl
 kind-comes-back SessionKey = refl
 kind-comes-back Increment = refl
 kind-comes-back Request = refl
@@ -39,7 +39,7 @@ some enabled job reply =
             counter = 7;
             step = 8;
             frame = table (λ i. 9 + i) 64;
-            root = table (λ i. 10 + i) 32;
+            «root_key» = table (λ i. 10 + i) 32;
             made = table (λ i. 11 + i) 32;
             inner = table (λ i. 2271560481 + 257 * i) 8;
             kept = 16909060;

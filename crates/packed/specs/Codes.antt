@@ -4,7 +4,7 @@ use mathlib.Core.Bool.{Bool}
 use lib.Dec.{eqb}
 use Rattle.words.specs.Choice.{pick}
 use Rattle.jobs.specs.declared.Kind.{Kind}
-use Rattle.jobs.specs.declared.Kind.the-variants.{RootKeyAndCounter, RootKey, CounterOnly, Nothing, SessionKey, Increment, Request}
+use Rattle.jobs.specs.declared.Kind.the-variants.{RootKeyAndCounter, RootKey, SessionKey, Increment, Request, TemporaryKeyAndCounter, TemporaryKey}
 
 -- 1 where the flag holds, else 0
 abbrev pub flagByte : Bool → ℕ
@@ -18,8 +18,8 @@ flagOf byte = eqb byte 1
 abbrev pub kindByte : Kind → ℕ
 kindByte RootKeyAndCounter = 0
 kindByte RootKey = 1
-kindByte CounterOnly = 2
-kindByte Nothing = 3
+kindByte TemporaryKeyAndCounter = 2
+kindByte TemporaryKey = 3
 kindByte SessionKey = 4
 kindByte Increment = 5
 kindByte Request = 6
@@ -29,7 +29,7 @@ unfoldable pub kindOf : ℕ → Kind
 kindOf byte =
     pick (eqb byte 0) RootKeyAndCounter
     (pick (eqb byte 1) RootKey
-    (pick (eqb byte 2) CounterOnly
-    (pick (eqb byte 3) Nothing
+    (pick (eqb byte 2) TemporaryKeyAndCounter
+    (pick (eqb byte 3) TemporaryKey
     (pick (eqb byte 4) SessionKey
     (pick (eqb byte 5) Increment Request)))))

@@ -24,7 +24,7 @@ packedKeys s = packedKey (sessionKey s 0) ++ packedKey (sessionKey s 1) ++ packe
 
 -- 192 bytes: the chaining words, and what the job keeps
 abbrev pub packedWork : State → List ℕ
-packedWork s = bytesOfAll (s .chain) ++ bytesOfAll (s .job .inner) ++ s .job .frame ++ s .job .root ++ s .job .made
+packedWork s = bytesOfAll (s .chain) ++ bytesOfAll (s .job .inner) ++ s .job .frame ++ s .job .«root_key» ++ s .job .made
 
 -- the head, the reply, the session keys, the work
 unfoldable pub packed : State → List ℕ

@@ -28,10 +28,10 @@ fn kind_of(number: u8) -> Kind
         return Kind::RootKey;
     }
     if number == 2 {
-        return Kind::CounterOnly;
+        return Kind::TemporaryKeyAndCounter;
     }
     if number == 3 {
-        return Kind::Nothing;
+        return Kind::TemporaryKey;
     }
     if number == 4 {
         return Kind::SessionKey;
@@ -131,7 +131,7 @@ pub fn job_of(s: &[u8]) -> Job
     let kept = words::get(s, 6);
     let inner = words_8(s, 223);
     let frame = bytes_64(s, 255);
-    let root = bytes_32(s, 319);
+    let root_key = bytes_32(s, 319);
     let made = bytes_32(s, 351);
     Job {
         there,
@@ -139,7 +139,7 @@ pub fn job_of(s: &[u8]) -> Job
         counter,
         step,
         frame,
-        root,
+        root_key,
         made,
         inner,
         kept,

@@ -27,8 +27,8 @@ fn kind_byte(kind: Kind) -> u8
     match kind {
         Kind::RootKeyAndCounter => 0,
         Kind::RootKey => 1,
-        Kind::CounterOnly => 2,
-        Kind::Nothing => 3,
+        Kind::TemporaryKeyAndCounter => 2,
+        Kind::TemporaryKey => 3,
         Kind::SessionKey => 4,
         Kind::Increment => 5,
         Kind::Request => 6,
@@ -141,7 +141,7 @@ pub fn put_work(s: State, out: &mut [u8; 383])
     let job = s.job;
     let inner = job.inner;
     let frame = job.frame;
-    let root = job.root;
+    let root = job.root_key;
     let made = job.made;
     put_words(chain, 191, out);
     put_words(inner, 223, out);

@@ -16,7 +16,7 @@ use Rattle.image.specs.Header.{count, slotSize}
 use Rattle.image.proofs.Laid.{SameHeader, same-header, then-header, Laid, same-laid, wide}
 use Rattle.image.proofs.Slots.{slotBytes, header-stored, front-stored, front-kept, front-other}
 use Rattle.jobs.specs.declared.Kind.{Kind}
-use Rattle.jobs.specs.declared.Kind.the-variants.{RootKeyAndCounter, RootKey, CounterOnly, Nothing, SessionKey, Increment, Request}
+use Rattle.jobs.specs.declared.Kind.the-variants.{RootKeyAndCounter, RootKey, SessionKey, Increment, Request, TemporaryKeyAndCounter, TemporaryKey}
 use Rattle.plan.specs.declared.Store.{Store}
 use Rattle.plan.specs.Stores.{keyStores, stores}
 use Rattle.plan.specs.Storing.{stored, allStored}
@@ -103,8 +103,8 @@ pub inside-slot : (size : ℕ) (kind : Kind) (frame : List ℕ) (kept : ℕ) →
 unfolding allInside keyStores pick
 inside-slot size RootKeyAndCounter frame kept = refl
 inside-slot size RootKey frame kept = refl
-inside-slot size CounterOnly frame kept = refl
-inside-slot size Nothing frame kept = refl
+inside-slot size TemporaryKeyAndCounter frame kept = refl
+inside-slot size TemporaryKey frame kept = refl
 inside-slot size SessionKey frame kept = refl
 inside-slot size Increment frame kept = refl
 inside-slot size Request frame kept = refl

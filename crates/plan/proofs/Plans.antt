@@ -6,7 +6,7 @@ use lib.ListN.{length, getD, take}
 use lib.Seq.{take-suc}
 use Rattle.jobs.specs.Jobs.{lengthOf, commandOf, hashSteps}
 use Rattle.jobs.specs.declared.Kind.{Kind}
-use Rattle.jobs.specs.declared.Kind.the-variants.{RootKeyAndCounter, RootKey, CounterOnly, Nothing, SessionKey, Increment, Request}
+use Rattle.jobs.specs.declared.Kind.the-variants.{RootKeyAndCounter, RootKey, SessionKey, Increment, Request, TemporaryKeyAndCounter, TemporaryKey}
 use Rattle.plan.specs.declared.Store.{Store}
 use Rattle.plan.specs.Stores.{keyStores, stores, noStore}
 use Rattle.plan.specs.Storing.{stored, allStored}
@@ -16,8 +16,8 @@ pub plan-length : (kind : Kind) (frame : List ℕ) (kept : ℕ) → hashSteps (c
 unfolding keyStores
 plan-length RootKeyAndCounter frame kept = refl
 plan-length RootKey frame kept = refl
-plan-length CounterOnly frame kept = refl
-plan-length Nothing frame kept = refl
+plan-length TemporaryKeyAndCounter frame kept = refl
+plan-length TemporaryKey frame kept = refl
 plan-length SessionKey frame kept = refl
 plan-length Increment frame kept = refl
 plan-length Request frame kept = refl

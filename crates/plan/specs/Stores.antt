@@ -4,7 +4,7 @@ use mathlib.Core.List.{List, [], _∷_, _++_}
 use lib.ListN.{getD}
 use Rattle.words.specs.Words.{wordOr0}
 use Rattle.jobs.specs.declared.Kind.{Kind}
-use Rattle.jobs.specs.declared.Kind.the-variants.{RootKeyAndCounter, RootKey, CounterOnly, Nothing, SessionKey, Increment, Request}
+use Rattle.jobs.specs.declared.Kind.the-variants.{RootKeyAndCounter, RootKey, SessionKey, Increment, Request, TemporaryKeyAndCounter, TemporaryKey}
 use Rattle.plan.specs.declared.Store.{Store}
 
 -- key word i, bytes 4-35 of the frame: 16-47 of the slot
@@ -34,8 +34,8 @@ incrementStores kept = record { at = 8; word = kept } ∷ []
 abbrev pub stores : Kind → List ℕ → ℕ → List Store
 stores RootKeyAndCounter frame kept = keyStores frame 8 ++ (counterStores ++ rootStores)
 stores RootKey frame kept = keyStores frame 8 ++ rootStores
-stores CounterOnly frame kept = counterStores
-stores Nothing frame kept = []
+stores TemporaryKeyAndCounter frame kept = counterStores
+stores TemporaryKey frame kept = []
 stores SessionKey frame kept = []
 stores Increment frame kept = incrementStores kept
 stores Request frame kept = []

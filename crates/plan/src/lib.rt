@@ -87,8 +87,8 @@ pub fn store_of(kind: Kind, i: u8, frame: [u8; 64], kept: u32) -> Store
     match kind {
         Kind::RootKeyAndCounter => key_and_counter_store(i, frame),
         Kind::RootKey => key_and_root_store(i, frame),
-        Kind::CounterOnly => counter_store(i),
-        Kind::Nothing => Store { at: 0, word: 0 },
+        Kind::TemporaryKeyAndCounter => counter_store(i),
+        Kind::TemporaryKey => Store { at: 0, word: 0 },
         Kind::SessionKey => Store { at: 0, word: 0 },
         Kind::Increment => increment_store(i, kept),
         Kind::Request => Store { at: 0, word: 0 },

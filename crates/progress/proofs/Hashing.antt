@@ -11,7 +11,7 @@ use Rattle.hmac.proofs.FourBlocks.{second, fourth}
 use Rattle.image.specs.Slot.{slotOf}
 use Rattle.jobs.specs.Jobs.{commandOf}
 use Rattle.jobs.specs.declared.Kind.{Kind}
-use Rattle.jobs.specs.declared.Kind.the-variants.{RootKeyAndCounter, RootKey, CounterOnly, Nothing, SessionKey, Increment, Request}
+use Rattle.jobs.specs.declared.Kind.the-variants.{RootKeyAndCounter, RootKey, SessionKey, Increment, Request, TemporaryKeyAndCounter, TemporaryKey}
 use Rattle.state.specs.declared.Key.{Key}
 use Rattle.state.specs.declared.State.{State}
 use Rattle.state.specs.Parts.{noReply}
@@ -40,7 +40,7 @@ busy kind keys counter frame root step chain made inner kept =
             counter = counter;
             step = step;
             frame = frame;
-            root = root;
+            «root_key» = root;
             made = made;
             inner = inner;
             kept = kept;
@@ -75,8 +75,8 @@ module _ (image : List ℕ) (keys : List Key) (counter : ℕ) (frame root chain 
   abbrev pub afterFour : Kind → State
   afterFour RootKeyAndCounter = checkedAt RootKeyAndCounter
   afterFour RootKey = checkedAt RootKey
-  afterFour CounterOnly = checkedAt CounterOnly
-  afterFour Nothing = checkedAt Nothing
+  afterFour TemporaryKeyAndCounter = checkedAt TemporaryKeyAndCounter
+  afterFour TemporaryKey = checkedAt TemporaryKey
   afterFour SessionKey =
       busy SessionKey keys counter frame root 4 (fourthAt SessionKey) (bytesOfAll (fourthAt SessionKey)) (secondAt SessionKey) kept
   afterFour Increment = checkedAt Increment
@@ -86,8 +86,8 @@ module _ (image : List ℕ) (keys : List Key) (counter : ℕ) (frame root chain 
   unfolding run stepped stepState stepImage isRunning pick hashStep hashed withBlock blockDone quarterOf innerAfter advanced withStep second fourth
   four-steps RootKeyAndCounter = refl
   four-steps RootKey = refl
-  four-steps CounterOnly = refl
-  four-steps Nothing = refl
+  four-steps TemporaryKeyAndCounter = refl
+  four-steps TemporaryKey = refl
   four-steps SessionKey = refl
   four-steps Increment = refl
   four-steps Request = refl

@@ -18,7 +18,7 @@ use Rattle.image.specs.Slot.{rootKey}
 use Rattle.jobs.specs.Jobs.{lengthOf, commandOf, hashSteps, longest}
 use Rattle.jobs.proofs.Longest.{at-most}
 use Rattle.jobs.specs.declared.Kind.{Kind}
-use Rattle.jobs.specs.declared.Kind.the-variants.{RootKeyAndCounter, RootKey, CounterOnly, Nothing, SessionKey, Increment, Request}
+use Rattle.jobs.specs.declared.Kind.the-variants.{RootKeyAndCounter, RootKey, SessionKey, Increment, Request, TemporaryKeyAndCounter, TemporaryKey}
 use Rattle.frames.specs.Layout.{counterOf}
 use Rattle.state.specs.declared.State.{State}
 use Rattle.state.specs.Parts.{noReply, posted}
@@ -76,7 +76,7 @@ module _ (d : Device) (frame : List ℕ) (formed : length (keyIn (outcome d) fra
       outcome (run longest (device (d .image) (start kind))) ≡
       pick (eqb (lastStatus (commandOf kind) (outcome d) frame) 0) (carriedOut kind (outcome d) frame) (failedWith (lastStatus (commandOf kind) (outcome d) frame) (outcome d))
 
-  root-digest : bytesOfAll (digest Nothing) ≡ signature (commandOf Nothing) (outcome d) frame
+  root-digest : bytesOfAll (digest TemporaryKey) ≡ signature (commandOf TemporaryKey) (outcome d) frame
   root-digest = fourth-hmac (field 4 32 sent) (field 0 4 sent) _ _ (length-table _ 32) (short 0 4 sent (omega arith))
 
   increment-digest : bytesOfAll (digest Increment) ≡ signature (commandOf Increment) (outcome d) frame
@@ -103,11 +103,11 @@ module _ (d : Device) (frame : List ℕ) (formed : length (keyIn (outcome d) fra
 
   all-steps : (kind : Kind) → run longest (device (d .image) (start kind)) ≡ run later (run 4 (device (d .image) (start kind)))
   all-steps kind =
-      let both : longest ≡ later + 4 = omega (arith, at-most Nothing) in
+      let both : longest ≡ later + 4 = omega (arith, at-most TemporaryKey) in
       ap (λ (n : ℕ). run n (device (d .image) (start kind))) both ∙ run-add later 4 (device (d .image) (start kind))
 
   enough : (kind : Kind) → lengthOf kind ≤ later + 4
-  enough kind = omega (arith, at-most kind, at-most Nothing)
+  enough kind = omega (arith, at-most kind, at-most TemporaryKey)
 
   four :
       (kind : Kind) →
@@ -168,8 +168,8 @@ module _ (d : Device) (frame : List ℕ) (formed : length (keyIn (outcome d) fra
   whole-kind : (kind : Kind) → Whole kind
   whole-kind RootKeyAndCounter = whole-storing RootKeyAndCounter refl (λ s. refl) (four RootKeyAndCounter) root-digest refl refl
   whole-kind RootKey = whole-storing RootKey refl (λ s. refl) (four RootKey) root-digest refl refl
-  whole-kind CounterOnly = whole-storing CounterOnly refl (λ s. refl) (four CounterOnly) root-digest refl refl
-  whole-kind Nothing = whole-storing Nothing refl (λ s. refl) (four Nothing) root-digest refl refl
+  whole-kind TemporaryKeyAndCounter = whole-storing TemporaryKeyAndCounter refl (λ s. refl) (four TemporaryKeyAndCounter) root-digest refl refl
+  whole-kind TemporaryKey = whole-storing TemporaryKey refl (λ s. refl) (four TemporaryKey) root-digest refl refl
   whole-kind SessionKey = whole-session
   whole-kind Increment = whole-storing Increment refl (λ s. refl) (four Increment) increment-digest refl refl
   whole-kind Request = whole-request

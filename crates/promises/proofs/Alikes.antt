@@ -13,7 +13,7 @@ use Rattle.image.specs.Header.{count}
 use Rattle.image.proofs.Laid.{SameHeader, same-laid}
 use Rattle.jobs.specs.Jobs.{commandOf}
 use Rattle.jobs.specs.declared.Kind.{Kind}
-use Rattle.jobs.specs.declared.Kind.the-variants.{RootKeyAndCounter, RootKey, CounterOnly, Nothing, SessionKey, Increment, Request}
+use Rattle.jobs.specs.declared.Kind.the-variants.{RootKeyAndCounter, RootKey, SessionKey, Increment, Request, TemporaryKeyAndCounter, TemporaryKey}
 use Rattle.frames.specs.Layout.{counterOf}
 use Rattle.state.specs.declared.Key.{Key}
 use Rattle.state.specs.Parts.{noKey}
@@ -36,8 +36,8 @@ module _ (d : Outcome) (frame : List ℕ) (formed : Formed (d .image) (d .keys))
       (kind : Kind) → statusOnArrival (d .image) (d .keys) frame ≡ 0 → length (getD (keysAfter (commandOf kind) d frame) c noKey .bytes) ≡ 32
   long-own RootKeyAndCounter passed = formed .long c
   long-own RootKey passed = formed .long c
-  long-own CounterOnly passed = formed .long c
-  long-own Nothing passed = formed .long c
+  long-own TemporaryKeyAndCounter passed = formed .long c
+  long-own TemporaryKey passed = formed .long c
   long-own SessionKey passed =
       let place : c < length (d .keys) = omega (arith, formed .four, below-count d frame passed, formed .laid .few) in
       rw (getD-set-same (d .keys) c (record { there = true; bytes = newSessionKey d frame }) noKey place) long-new

@@ -11,7 +11,7 @@ use Rattle.image.specs.Slot.{isSet, rootKey}
 use Rattle.image.proofs.Laid.{Laid}
 use Rattle.image.proofs.Slots.{slotBytes, root-in, counter-in, value-in, key-in}
 use Rattle.jobs.specs.declared.Kind.{Kind}
-use Rattle.jobs.specs.declared.Kind.the-variants.{RootKeyAndCounter, RootKey, CounterOnly, Nothing, SessionKey, Increment, Request}
+use Rattle.jobs.specs.declared.Kind.the-variants.{RootKeyAndCounter, RootKey, SessionKey, Increment, Request, TemporaryKeyAndCounter, TemporaryKey}
 use Rattle.plan.specs.Stores.{keyStores, stores}
 use Rattle.plan.proofs.InSlot.{putAll}
 use Rattle.promises.specs.Compared.{Counter, valueShown, counterIn}
@@ -20,8 +20,8 @@ use Rattle.promises.specs.Compared.{Counter, valueShown, counterIn}
 unfoldable pub readCounter : List ℕ → Counter
 readCounter b =
     record {
-      root = wordAt b 0;
-      counter = wordAt b 4;
+      rootState = wordAt b 0;
+      counterState = wordAt b 4;
       value = valueShown (wordAt b 4) (wordAt b 8);
       key = pick (isSet (wordAt b 0)) (field 16 32 b) (replicate 32 255);
     }
@@ -41,13 +41,13 @@ readBack w = wordOf (w / 16777216) (w / 65536 % 256) (w / 256 % 256) (w % 256)
 
 -- what a kind of job makes of what is compared
 abbrev pub counterAfter : Kind → List ℕ → ℕ → Counter → Counter
-counterAfter RootKeyAndCounter frame kept p = record { root = 0; counter = 0; value = 0; key = keyBrought frame }
-counterAfter RootKey frame kept p = record { root = 0; counter = p .counter; value = p .value; key = keyBrought frame }
-counterAfter CounterOnly frame kept p = record { root = p .root; counter = 0; value = 0; key = p .key }
-counterAfter Nothing frame kept p = p
+counterAfter RootKeyAndCounter frame kept p = record { rootState = 0; counterState = 0; value = 0; key = keyBrought frame }
+counterAfter RootKey frame kept p = record { rootState = 0; counterState = p .counterState; value = p .value; key = keyBrought frame }
+counterAfter TemporaryKeyAndCounter frame kept p = record { rootState = p .rootState; counterState = 0; value = 0; key = p .key }
+counterAfter TemporaryKey frame kept p = p
 counterAfter SessionKey frame kept p = p
 counterAfter Increment frame kept p =
-    record { root = p .root; counter = p .counter; value = valueShown (p .counter) (readBack kept); key = p .key }
+    record { rootState = p .rootState; counterState = p .counterState; value = valueShown (p .counterState) (readBack kept); key = p .key }
 counterAfter Request frame kept p = p
 
 module _ (g : ℕ → ℕ) (frame : List ℕ) (kept : ℕ) where
@@ -56,8 +56,8 @@ module _ (g : ℕ → ℕ) (frame : List ℕ) (kept : ℕ) where
   unfolding putAll putWord keyStores table spread readCounter keyBrought pick
   after-stores RootKeyAndCounter = refl
   after-stores RootKey = refl
-  after-stores CounterOnly = refl
-  after-stores Nothing = refl
+  after-stores TemporaryKeyAndCounter = refl
+  after-stores TemporaryKey = refl
   after-stores SessionKey = refl
   after-stores Increment = refl
   after-stores Request = refl

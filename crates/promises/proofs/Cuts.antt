@@ -14,7 +14,7 @@ use Rattle.words.specs.Table.{table}
 use Rattle.words.specs.Words.{wordOf, putWord}
 use Rattle.image.specs.Slot.{isSet}
 use Rattle.jobs.specs.declared.Kind.{Kind}
-use Rattle.jobs.specs.declared.Kind.the-variants.{RootKeyAndCounter, RootKey, CounterOnly, Nothing, SessionKey, Increment, Request}
+use Rattle.jobs.specs.declared.Kind.the-variants.{RootKeyAndCounter, RootKey, SessionKey, Increment, Request, TemporaryKeyAndCounter, TemporaryKey}
 use Rattle.plan.specs.declared.Store.{Store}
 use Rattle.plan.specs.Stores.{keyStores, counterStores, incrementStores, stores}
 use Rattle.plan.proofs.InSlot.{putAll}
@@ -24,7 +24,7 @@ use Rattle.promises.proofs.Unseen.{allUnseen, unseen, some-unseen}
 
 -- a counter set at 0, all else as it was
 abbrev pub zeroed : Counter → Counter
-zeroed p = record { root = p .root; counter = 0; value = 0; key = p .key }
+zeroed p = record { rootState = p .rootState; counterState = 0; value = 0; key = p .key }
 
 module _ (g : ℕ → ℕ) (frame : List ℕ) (kept : ℕ) where
   abbrev pub rootSet : Bool
@@ -84,8 +84,8 @@ module _ (g : ℕ → ℕ) (frame : List ℕ) (kept : ℕ) where
   abbrev pub Known : Kind → Type 0
   Known RootKeyAndCounter = (rootSet ≡ false) × (counterSet ≡ false)
   Known RootKey = rootSet ≡ false
-  Known CounterOnly = counterSet ≡ false
-  Known Nothing = Unit {0}
+  Known TemporaryKeyAndCounter = counterSet ≡ false
+  Known TemporaryKey = Unit {0}
   Known SessionKey = Unit {0}
   Known Increment = Unit {0}
   Known Request = Unit {0}
@@ -95,8 +95,8 @@ module _ (g : ℕ → ℕ) (frame : List ℕ) (kept : ℕ) where
   unfolding keyStores allUnseen
   cut-off RootKeyAndCounter (r, s) j h = cut-both-by r s j (h (omega arith)) _ refl
   cut-off RootKey r j h = let left = h (omega arith) in inl (not-seen (stores RootKey frame kept) 8 j (omega (arith, left)) (keys r))
-  cut-off CounterOnly s j h = let left = h (omega arith) in inl (not-seen counterStores 1 j (omega (arith, left)) (value s))
-  cut-off Nothing _ j h = inl (none-made j)
+  cut-off TemporaryKeyAndCounter s j h = let left = h (omega arith) in inl (not-seen counterStores 1 j (omega (arith, left)) (value s))
+  cut-off TemporaryKey _ j h = inl (none-made j)
   cut-off SessionKey _ j h = inl (none-made j)
   cut-off Increment _ j h = let left = h (omega arith) in inl (not-seen (incrementStores kept) 0 j (omega (arith, left)) refl)
   cut-off Request _ j h = inl (none-made j)

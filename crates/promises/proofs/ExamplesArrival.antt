@@ -23,7 +23,7 @@ use Rattle.device.specs.Work.{Device}
 use Rattle.device.specs.Calls.{device, Frame, called}
 use Rattle.progress.proofs.Enabled.{enabledAs}
 use Rattle.promises.specs.Orders.{allCalled}
-use Rattle.promises.specs.Examples.{P1, P2, P3, P4, P5, P6, P7, P8, P13, P14, Ready, slotFor, Shaped, InOrder, Ends, Seen}
+use Rattle.promises.specs.Examples.{P1, P2, P3, P4, P5, P6, P7, P8, P13, P14, Ready, slotFor, Shaped, InOrder, Seen, IdleWith}
 use Rattle.promises.proofs.ExamplesCalls.{Holds, frame-called, ready-enabled, command-called}
 
 -- a frame with its length in order has two bytes or more
@@ -61,16 +61,16 @@ module _ (d : Device) (ready : Ready d) (frame output : List ℕ) where
   -- a frame that fails on arrival ends with its status
   fails :
       getD frame 0 0 ≡ 0x9B → 1 < length frame → (status : ℕ) → statusOnArrival (d .image) (d .state .keys) frame ≡ status → eqb status 0 ≡ false →
-      Ends status (called (Frame frame output) d)
+      IdleWith status (called (Frame frame output) d)
   unfolding taken
   fails first long status decided bad =
       let failed = arrived-fails (d .image) (d .state) frame (rw decided bad) in
       let after = command-called d ready output frame first long ∙ ap (device (d .image)) failed in
-      subst (Ends status) (sym after) (ready .none, decided)
+      subst (IdleWith status) (sym after) (ready .none, decided)
 
   shaped-fails :
       (type : ℕ) → type ≤ 3 → Shaped type frame → (status : ℕ) → statusOnArrival (d .image) (d .state .keys) frame ≡ status → eqb status 0 ≡ false →
-      Ends status (called (Frame frame output) d)
+      IdleWith status (called (Frame frame output) d)
   shaped-fails type known shaped = fails (shaped .first) (shaped-long type frame known shaped)
 
   pub alone : Holds P1 d frame output
@@ -96,7 +96,7 @@ module _ (d : Device) (ready : Ready d) (frame output : List ℕ) where
   -- a frame in order that fails by its slot or its session key
   slot-fails :
       (type : ℕ) → type ≤ 3 → InOrder type frame → (status : ℕ) → fromRow 5 type ≡ status → eqb status 0 ≡ false →
-      Ends status (called (Frame frame output) d)
+      IdleWith status (called (Frame frame output) d)
   slot-fails type known in-order status decided = shaped-fails type known (in-order .shaped) status (past-counter type known in-order ∙ decided)
 
   pub session-key-unset : Holds P6 d frame output

@@ -9,7 +9,7 @@ use borrow.Author.Tests.{lt-ltb, ne-eqb}
 use lib.ListN.{length, getD}
 use Rattle.words.specs.Choice.{pick}
 use Rattle.image.proofs.Laid.{accepted-laid}
-use Rattle.frames.specs.declared.Class.the-variants.{Command}
+use Rattle.frames.specs.declared.Class.the-variants.{CommandFrame}
 use Rattle.frames.specs.Classes.{namedClass, classOf}
 use Rattle.device.specs.Frame.{withEnabled, stateAfter}
 use Rattle.device.specs.Work.{Device, run}
@@ -54,7 +54,7 @@ module _ (d : Device) (ready : Ready d) (output : List ℕ) where
 
   -- a command frame
   module _ (frame : List ℕ) (first : getD frame 0 0 ≡ 0x9B) (long : 1 < length frame) where
-    is-command : classOf frame ≡ Command
+    is-command : classOf frame ≡ CommandFrame
     unfolding classOf namedClass pick
     is-command =
         rw (ne-eqb (length frame) 0 (λ none. omega (arith, none)), first, lt-ltb 1 (length frame) long)

@@ -39,7 +39,7 @@ module _ (d : Device) (ready : Ready d) (frame output : List ℕ) (p : Pairs d f
   below = rw (ready .four) (p .in-order .named)
 
   found-unset : wordAt (slotBytes (d .image) c) 0 ≡ unset
-  found-unset = sym (root-in (d .image) c laid below) ∙ p .root
+  found-unset = sym (root-in (d .image) c laid below) ∙ p .root-unset
 
   -- the image after some stores, and what it shows of the counter
   abbrev imageAt : ℕ → List ℕ
@@ -56,9 +56,9 @@ module _ (d : Device) (ready : Ready d) (frame output : List ℕ) (p : Pairs d f
   cut-before-the-end =
       let after = ap (λ (x : Device). x .image) (pairing d ready frame output p 10 ∙ some-stored _ _ _ _ _ _ _ _ _ 10 (omega arith)) in
       let now = shown 10 in
-      let set : slotOf (imageAt 10) c .counter ≡ 0 = ap (λ (x : Counter). x .counter) now in
+      let set : slotOf (imageAt 10) c .«counter_state» ≡ 0 = ap (λ (x : Counter). x .counterState) now in
       let value : slotOf (imageAt 10) c .value ≡ 0 = rw set at (ap (λ (x : Counter). x .value) now) in
-      let root = ap (λ (x : Counter). x .root) now ∙ found-unset in
+      let root = ap (λ (x : Counter). x .rootState) now ∙ found-unset in
       rw after (set, value, root)
 
   pub cut-before-the-counter : Seen P10-cut-before-the-counter d frame (allCalled (script P10-cut-before-the-counter frame output) d)
@@ -66,6 +66,6 @@ module _ (d : Device) (ready : Ready d) (frame output : List ℕ) (p : Pairs d f
   cut-before-the-counter =
       let after = ap (λ (x : Device). x .image) (pairing d ready frame output p 9 ∙ some-stored _ _ _ _ _ _ _ _ _ 9 (omega arith)) in
       let now = shown 9 in
-      let counter = ap (λ (x : Counter). x .counter) now ∙ sym (counter-in (d .image) c laid below) ∙ p .counter in
-      let root = ap (λ (x : Counter). x .root) now ∙ found-unset in
+      let counter = ap (λ (x : Counter). x .counterState) now ∙ sym (counter-in (d .image) c laid below) ∙ p .counter-unset in
+      let root = ap (λ (x : Counter). x .rootState) now ∙ found-unset in
       rw after (counter, root)

@@ -15,7 +15,7 @@ use Rattle.image.specs.Slot.{isBad, rootKey}
 use Rattle.jobs.specs.Jobs.{rootKind, kindOf}
 use Rattle.jobs.specs.declared.Command.the-variants.{WriteRootKey, IncrementCounter}
 use Rattle.jobs.specs.declared.Kind.{Kind}
-use Rattle.jobs.specs.declared.Kind.the-variants.{RootKeyAndCounter, Nothing, Increment}
+use Rattle.jobs.specs.declared.Kind.the-variants.{RootKeyAndCounter, Increment, TemporaryKey}
 use Rattle.frames.specs.Layout.{counterOf}
 use Rattle.state.specs.declared.Key.{Key}
 use Rattle.state.specs.declared.State.{State}
@@ -35,7 +35,7 @@ use Rattle.progress.proofs.Hashing.{busy, begun, hashedAt, afterFour, four-step
 use Rattle.progress.proofs.Stores.{stores-left, all-made}
 use Rattle.progress.proofs.RunsWhole.{short}
 use Rattle.promises.specs.Orders.{allCalled}
-use Rattle.promises.specs.Examples.{P9-before-the-end, P9-at-the-end, P11, P12, Ready, slotFor, InOrder, Good, Pairs, Ends, Seen}
+use Rattle.promises.specs.Examples.{P9-before-the-end, P9-at-the-end, P11, P12, Ready, slotFor, InOrder, Good, Pairs, Seen, IdleWith}
 use Rattle.promises.proofs.Sound.{started}
 use Rattle.promises.proofs.ExamplesCalls.{Holds, work-called}
 use Rattle.promises.proofs.ExamplesArrival.{shaped-long, fromRow, past-counter}
@@ -86,7 +86,7 @@ module _ (d : Device) (ready : Ready d) (frame output : List ℕ) where
       (ap (λ (s : State). run 4 (device (d .image) s)) starts ∙ four-steps _ _ _ _ _ _ _ _ _ kind ∙ ap (device (d .image)) decides)
 
   -- a good root key frame passes its check
-  root-good : Good WriteRootKey d frame → decisionOf (hashed Nothing) (valueIn (outcome d) frame) ≡ 0
+  root-good : Good WriteRootKey d frame → decisionOf (hashed TemporaryKey) (valueIn (outcome d) frame) ≡ 0
   unfolding decision firstOf pick
   root-good good =
       rw (fourth-hmac (field 4 32 sent) (field 0 4 sent) (d .state .chain) (replicate 8 0) (length-table _ 32) (short 0 4 sent (omega arith)), good)
@@ -110,8 +110,8 @@ module _ (d : Device) (ready : Ready d) (frame output : List ℕ) where
       called (Work (m + 4)) (called (Frame frame output) d) ≡ run m (device (d .image) (advanced (hashed RootKeyAndCounter)))
   unfolding kindOf rootKind firstOf isBad decided withKept pick
   pairing p =
-      works 0 (omega arith) (p .in-order) (rw (p .root, p .counter)) RootKeyAndCounter
-      (rw (p .in-order .shaped .typed, p .lasting, p .counter)) _ (rw (root-good (p .good)))
+      works 0 (omega arith) (p .in-order) (rw (p .root-unset, p .counter-unset)) RootKeyAndCounter
+      (rw (p .in-order .shaped .typed, p .lasting, p .counter-unset)) _ (rw (root-good (p .good)))
 
   pub busy-before-the-end : Holds P9-before-the-end d frame output
   unfolding allCalled keyStores
@@ -119,14 +119,14 @@ module _ (d : Device) (ready : Ready d) (frame output : List ℕ) where
 
   pub done-at-the-end : Holds P9-at-the-end d frame output
   unfolding allCalled keyStores withStep
-  done-at-the-end p = subst (Ends 0x80) (sym (pairing p 11 ∙ all-made (hashed RootKeyAndCounter) 3 refl refl (d .image) 11 (omega arith))) (refl, refl)
+  done-at-the-end p = subst (IdleWith 0x80) (sym (pairing p 11 ∙ all-made (hashed RootKeyAndCounter) 3 refl refl (d .image) 11 (omega arith))) (refl, refl)
 
   pub temporary-key : Holds P11 d frame output
   unfolding allCalled kindOf rootKind firstOf isBad run decided withKept advanced pick
   temporary-key (in-order, root, counter, value, temporary, good) =
       let after =
-      works 0 (omega arith) in-order (rw (root, counter)) Nothing (rw (in-order .shaped .typed, temporary, counter))
-      (posted (hashed Nothing) 0x80) (rw (root-good good)) 0 in
+      works 0 (omega arith) in-order (rw (root, counter)) TemporaryKey (rw (in-order .shaped .typed, temporary, counter))
+      (posted (hashed TemporaryKey) 0x80) (rw (root-good good)) 0 in
       subst (Seen P11 d frame) (sym after) ((refl, refl), value)
 
   pub full-counter : Holds P12 d frame output
@@ -135,4 +135,4 @@ module _ (d : Device) (ready : Ready d) (frame output : List ℕ) where
       let after =
       works 2 (omega arith) in-order (rw (sane, set, key)) Increment (rw (in-order .shaped .typed))
       (posted (hashed Increment) 0x20) (rw (increment-full good told full)) 0 in
-      subst (Ends 0x20) (sym after) (refl, refl)
+      subst (IdleWith 0x20) (sym after) (refl, refl)

@@ -11,7 +11,7 @@ use Rattle.words.proofs.Choice.{never, either}
 use Rattle.image.specs.Header.{count}
 use Rattle.image.specs.Refusal.{refusal}
 use Rattle.frames.specs.declared.Class.{Class}
-use Rattle.frames.specs.declared.Class.the-variants.{Empty, EnableReset, Reset, Read, Command, Unnamed}
+use Rattle.frames.specs.declared.Class.the-variants.{Empty, EnableReset, Reset, Read, Unnamed, CommandFrame}
 use Rattle.frames.specs.Classes.{classOf}
 use Rattle.frames.specs.Layout.{counterOf}
 use Rattle.state.specs.Parts.{powerOn}
@@ -98,7 +98,7 @@ module _ (a : Account) (sound : Sound a) (bytes : List ℕ) where
   after-frame EnableReset = enabled-only true a sound
   after-frame Reset = after-reset (now .state .enabled)
   after-frame Read = enabled-only false a sound
-  after-frame Command = after-command (isBusy now) refl
+  after-frame CommandFrame = after-command (isBusy now) refl
   after-frame Unnamed = enabled-only false a sound
 
   -- a work call that finds a job, or none
@@ -160,7 +160,7 @@ same-device (Frame bytes output) a = by-class (classOf bytes)
     by-class EnableReset = refl
     by-class Reset = either (λ (b : Account). b .device ≡ called (Frame bytes output) (a .device)) _ _ _ (λ _. refl) (λ _. refl)
     by-class Read = refl
-    by-class Command = either (λ (b : Account). b .device ≡ called (Frame bytes output) (a .device)) _ _ _ (λ _. refl) (λ _. refl)
+    by-class CommandFrame = either (λ (b : Account). b .device ≡ called (Frame bytes output) (a .device)) _ _ _ (λ _. refl) (λ _. refl)
     by-class Unnamed = refl
 same-device (Work quota) a = either (λ (b : Account). b .device ≡ called (Work quota) (a .device)) _ _ _ (λ _. refl) (λ _. refl)
 

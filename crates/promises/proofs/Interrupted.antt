@@ -17,7 +17,7 @@ use Rattle.image.proofs.Laid.{SameHeader, then-header, back-header, Laid, same-
 use Rattle.image.proofs.Slots.{slotBytes, root-in, counter-in}
 use Rattle.jobs.specs.Jobs.{commandOf, hashSteps}
 use Rattle.jobs.specs.declared.Kind.{Kind}
-use Rattle.jobs.specs.declared.Kind.the-variants.{RootKeyAndCounter, RootKey, CounterOnly, Nothing, SessionKey, Increment, Request}
+use Rattle.jobs.specs.declared.Kind.the-variants.{RootKeyAndCounter, RootKey, SessionKey, Increment, Request, TemporaryKeyAndCounter, TemporaryKey}
 use Rattle.frames.specs.Layout.{counterOf}
 use Rattle.plan.specs.declared.Store.{Store}
 use Rattle.plan.specs.Stores.{stores}
@@ -92,8 +92,8 @@ module _ (a : Account) (w : Working a) where
   known-of RootKeyAndCounter (r, s) =
       (rw (root-in found c (w .formed .laid) below) at r, rw (counter-in found c (w .formed .laid) below) at s)
   known-of RootKey (r, s) = rw (root-in found c (w .formed .laid) below) at r
-  known-of CounterOnly (r, s) = rw (counter-in found c (w .formed .laid) below) at s
-  known-of Nothing _ = tt
+  known-of TemporaryKeyAndCounter (r, s) = rw (counter-in found c (w .formed .laid) below) at s
+  known-of TemporaryKey _ = tt
   known-of SessionKey _ = tt
   known-of Increment _ = tt
   known-of Request _ = tt
@@ -129,35 +129,35 @@ module _ (a : Account) (w : Working a) where
   dropped : counterIn image c ≡ counterIn (a .asIf .image) c → Left image (interrupted a)
   unfolding hasSet counterIn pick
   dropped same =
-      let word : slotOf image c .counter ≡ slotOf (a .asIf .image) c .counter = ap (λ (p : Counter). p .counter) same in
-      let stays : hasSet a ≡ false = rw word (same-not-new (isSet (slotOf (a .asIf .image) c .counter))) in
+      let word : slotOf image c .«counter_state» ≡ slotOf (a .asIf .image) c .«counter_state» = ap (λ (p : Counter). p .counterState) same in
+      let stays : hasSet a ≡ false = rw word (same-not-new (isSet (slotOf (a .asIf .image) c .«counter_state»))) in
       subst (Left image) (sym (counts-as false stays))
       (record { header = header-as-if; counters = λ k inside. all-counters (a .asIf .image) same others k inside _ refl })
 
   -- or its counter is set to 0 only
   set-only :
-      isSet (slotOf (a .asIf .image) c .counter) ≡ false → counterIn image c ≡ zeroed (counterIn (a .asIf .image) c) → Left image (interrupted a)
+      isSet (slotOf (a .asIf .image) c .«counter_state») ≡ false → counterIn image c ≡ zeroed (counterIn (a .asIf .image) c) → Left image (interrupted a)
   unfolding hasSet setTo0 counterIn pick
   set-only unset same =
       let o = a .asIf .image in
       let laid-o : Laid o = same-laid o found (back-header found o (w .header)) (w .formed .laid) in
       let below-o : c < count o = rw (← w .header .counters) below in
-      let word : slotOf image c .counter ≡ 0 = ap (λ (p : Counter). p .counter) same in
+      let word : slotOf image c .«counter_state» ≡ 0 = ap (λ (p : Counter). p .counterState) same in
       let new : hasSet a ≡ true = rw (unset, word) in
       let frame = frameKept (a .frame) in
       subst (Left image) (sym (counts-as true new))
       (record {
-        header = then-header image o _ header-as-if (back-header _ o (made CounterOnly frame 0 o c laid-o below-o .header));
+        header = then-header image o _ header-as-if (back-header _ o (made TemporaryKeyAndCounter frame 0 o c laid-o below-o .header));
         counters =
             λ k inside.
-            all-counters _ (same ∙ sym (own-after CounterOnly frame 0 o c laid-o below-o))
-            (λ k inside apart. others k inside apart ∙ sym (other-after CounterOnly frame 0 o c laid-o below-o k (rw (← w .header .counters) inside) apart))
+            all-counters _ (same ∙ sym (own-after TemporaryKeyAndCounter frame 0 o c laid-o below-o))
+            (λ k inside apart. others k inside apart ∙ sym (other-after TemporaryKeyAndCounter frame 0 o c laid-o below-o k (rw (← w .header .counters) inside) apart))
             k inside _ refl;
       })
 
-  found-unset : isSet (slotOf found c .counter) ≡ false → isSet (slotOf (a .asIf .image) c .counter) ≡ false
+  found-unset : isSet (slotOf found c .«counter_state») ≡ false → isSet (slotOf (a .asIf .image) c .«counter_state») ≡ false
   unfolding counterIn
-  found-unset e = rw (← ap (λ (p : Counter). p .counter) (w .alike .counters c below)) e
+  found-unset e = rw (← ap (λ (p : Counter). p .counterState) (w .alike .counters c below)) e
 
   pub left-behind : Left image (interrupted a)
   unfolding table

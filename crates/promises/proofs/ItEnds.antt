@@ -10,7 +10,7 @@ use Rattle.words.specs.Choice.{pick}
 use Rattle.words.proofs.Choice.{never, either}
 use Rattle.image.specs.Refusal.{refusal}
 use Rattle.frames.specs.declared.Class.{Class}
-use Rattle.frames.specs.declared.Class.the-variants.{Empty, EnableReset, Reset, Read, Command, Unnamed}
+use Rattle.frames.specs.declared.Class.the-variants.{Empty, EnableReset, Reset, Read, Unnamed, CommandFrame}
 use Rattle.frames.specs.Classes.{classOf}
 use Rattle.jobs.specs.Jobs.{longest}
 use Rattle.jobs.proofs.Longest.{at-most}
@@ -63,7 +63,7 @@ module _ (a : Account) (sound : Sound a) (busy : isBusy (a .device) ≡ true) wh
   frame-age bytes EnableReset = same-age (withEnabled (d .state) true) refl
   frame-age bytes Reset = either (Older 0) (d .state .enabled) _ _ (λ _ gone. absurd (never gone)) (λ _. same-age (withEnabled (d .state) false) refl)
   frame-age bytes Read = same-age (withEnabled (d .state) false) refl
-  frame-age bytes Command =
+  frame-age bytes CommandFrame =
       either (Older 0) (d .state .job .there) _ _ (λ _. same-age (withEnabled (d .state) false) refl) (λ none. absurd (never (sym none ∙ busy)))
   frame-age bytes Unnamed = same-age (withEnabled (d .state) false) refl
 

@@ -13,7 +13,7 @@ use Rattle.image.specs.Slot.{slotOf, isSet, isBad, rootKey}
 use Rattle.image.proofs.Laid.{SameHeader}
 use Rattle.jobs.specs.Jobs.{commandOf}
 use Rattle.jobs.specs.declared.Kind.{Kind}
-use Rattle.jobs.specs.declared.Kind.the-variants.{RootKeyAndCounter, RootKey, CounterOnly, Nothing, SessionKey, Increment, Request}
+use Rattle.jobs.specs.declared.Kind.the-variants.{RootKeyAndCounter, RootKey, SessionKey, Increment, Request, TemporaryKeyAndCounter, TemporaryKey}
 use Rattle.frames.specs.Layout.{typeOf, counterOf}
 use Rattle.checks.specs.Checks.{arrivalStatus}
 use Rattle.state.specs.declared.Key.{Key}
@@ -38,23 +38,23 @@ module _ (frame : List ℕ) (d e : Outcome) (same : SameTo frame d e) where
   pub key-there-same : keyIn d frame .bytes ≡ keyIn e frame .bytes
   key-there-same = ap (λ (key : Key). key .bytes) (same .session)
 
-  root-same : c < count (d .image) → slotOf (d .image) c .root ≡ slotOf (e .image) c .root
+  root-same : c < count (d .image) → slotOf (d .image) c .«root_state» ≡ slotOf (e .image) c .«root_state»
   unfolding counterIn
-  root-same below = ap (λ (p : Counter). p .root) (same .counter below)
+  root-same below = ap (λ (p : Counter). p .rootState) (same .counter below)
 
-  counter-same : c < count (d .image) → slotOf (d .image) c .counter ≡ slotOf (e .image) c .counter
+  counter-same : c < count (d .image) → slotOf (d .image) c .«counter_state» ≡ slotOf (e .image) c .«counter_state»
   unfolding counterIn
-  counter-same below = ap (λ (p : Counter). p .counter) (same .counter below)
+  counter-same below = ap (λ (p : Counter). p .counterState) (same .counter below)
 
   key-same : c < count (d .image) → rootKey (d .image) c ≡ rootKey (e .image) c
   unfolding counterIn
   key-same below = ap (λ (p : Counter). p .key) (same .counter below)
 
-  pub value-same : c < count (d .image) → isSet (slotOf (d .image) c .counter) ≡ true → slotOf (d .image) c .value ≡ slotOf (e .image) c .value
+  pub value-same : c < count (d .image) → isSet (slotOf (d .image) c .«counter_state») ≡ true → slotOf (d .image) c .value ≡ slotOf (e .image) c .value
   unfolding counterIn pick
   value-same below set =
       let shown = ap (λ (p : Counter). p .value) (same .counter below) in
-      let set' : isSet (slotOf (e .image) c .counter) ≡ true = rw (← counter-same below) set in
+      let set' : isSet (slotOf (e .image) c .«counter_state») ≡ true = rw (← counter-same below) set in
       rw (set, set') at shown
 
   arrival-by : (b : Bool) → ltb c (count (d .image)) ≡ b → statusOnArrival (d .image) (d .keys) frame ≡ statusOnArrival (e .image) (e .keys) frame
@@ -87,8 +87,8 @@ module _ (frame : List ℕ) (d e : Outcome) (same : SameTo frame d e) where
     unfolding lastStatus decision firstOf pick
     last-of RootKeyAndCounter known = refl
     last-of RootKey known = refl
-    last-of CounterOnly known = refl
-    last-of Nothing known = refl
+    last-of TemporaryKeyAndCounter known = refl
+    last-of TemporaryKey known = refl
     last-of SessionKey known = rw root-key-same
     last-of Increment known = rw (key-there-same, value-same below known)
     last-of Request known = rw key-there-same

@@ -9,7 +9,7 @@ use Rattle.words.specs.Choice.{pick}
 use Rattle.words.proofs.Choice.{never}
 use Rattle.image.specs.Header.{count}
 use Rattle.frames.specs.declared.Class.{Class}
-use Rattle.frames.specs.declared.Class.the-variants.{Command}
+use Rattle.frames.specs.declared.Class.the-variants.{CommandFrame}
 use Rattle.frames.specs.Classes.{classOf}
 use Rattle.jobs.specs.Jobs.{longest}
 use Rattle.state.specs.declared.Key.{Key}
@@ -34,7 +34,7 @@ otherwise false x y e = refl
 
 -- an idle account after a frame and the steps of its job: the frame has run whole
 module _
-    (a : Account) (sound : Sound a) (quiet : isBusy (a .device) ≡ false) (frame output : List ℕ) (command : classOf frame ≡ Command) where
+    (a : Account) (sound : Sound a) (quiet : isBusy (a .device) ≡ false) (frame output : List ℕ) (command : classOf frame ≡ CommandFrame) where
   abbrev after : Device
   after = called (Frame frame output) (a .device)
 

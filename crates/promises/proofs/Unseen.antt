@@ -69,11 +69,11 @@ unseen-one b store e = unseen-by b store (inFront store) _ _ refl refl e
 -- the state words stand in what is compared
 root-word : (b c : List ℕ) → readCounter c ≡ readCounter b → wordAt c 0 ≡ wordAt b 0
 unfolding readCounter
-root-word b c same = ap (λ (p : Counter). p .root) same
+root-word b c same = ap (λ (p : Counter). p .rootState) same
 
 counter-word : (b c : List ℕ) → readCounter c ≡ readCounter b → wordAt c 4 ≡ wordAt b 4
 unfolding readCounter
-counter-word b c same = ap (λ (p : Counter). p .counter) same
+counter-word b c same = ap (λ (p : Counter). p .counterState) same
 
 as-before :
     (b c : List ℕ) (ss : List Store) → readCounter c ≡ readCounter b → allUnseen (isSet (wordAt b 0)) (isSet (wordAt b 4)) ss ≡ true →

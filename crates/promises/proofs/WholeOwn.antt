@@ -14,7 +14,7 @@ use Rattle.image.specs.Slot.{slotOf}
 use Rattle.image.proofs.Laid.{SameHeader, same-header, Laid, same-laid}
 use Rattle.jobs.specs.Jobs.{commandOf}
 use Rattle.jobs.specs.declared.Kind.{Kind}
-use Rattle.jobs.specs.declared.Kind.the-variants.{RootKeyAndCounter, RootKey, CounterOnly, Nothing, SessionKey, Increment, Request}
+use Rattle.jobs.specs.declared.Kind.the-variants.{RootKeyAndCounter, RootKey, SessionKey, Increment, Request, TemporaryKeyAndCounter, TemporaryKey}
 use Rattle.frames.specs.Layout.{counterOf}
 use Rattle.state.specs.declared.Key.{Key}
 use Rattle.state.specs.Parts.{noKey}
@@ -68,8 +68,8 @@ module _ (d : Outcome) (frame : List ℕ) (laid : Laid (d .image)) where
       × ((k : ℕ) → (k ≡ c → ⊥) → getD (keysAfter (commandOf kind) d frame) k noKey ≡ getD (d .keys) k noKey)
   kept-keys RootKeyAndCounter = (refl, λ k apart. refl)
   kept-keys RootKey = (refl, λ k apart. refl)
-  kept-keys CounterOnly = (refl, λ k apart. refl)
-  kept-keys Nothing = (refl, λ k apart. refl)
+  kept-keys TemporaryKeyAndCounter = (refl, λ k apart. refl)
+  kept-keys TemporaryKey = (refl, λ k apart. refl)
   kept-keys SessionKey = (length-set (d .keys) c _, λ k apart. getD-set-other (d .keys) c k _ noKey apart)
   kept-keys Increment = (refl, λ k apart. refl)
   kept-keys Request = (refl, λ k apart. refl)
@@ -132,8 +132,8 @@ module _
             counterAfter kind (frameKept frame) (keptBy e kind) (counterIn (e .image) own)
         by-kept RootKeyAndCounter known = refl
         by-kept RootKey known = refl
-        by-kept CounterOnly known = refl
-        by-kept Nothing known = refl
+        by-kept TemporaryKeyAndCounter known = refl
+        by-kept TemporaryKey known = refl
         by-kept SessionKey known = refl
         by-kept Increment known = rw (value-same frame d e same below known)
         by-kept Request known = refl
@@ -146,8 +146,8 @@ module _
         getD (keysAfter (commandOf kind) d frame) own noKey ≡ getD (keysAfter (commandOf kind) e frame) own noKey
     session-same-after RootKeyAndCounter = same .session
     session-same-after RootKey = same .session
-    session-same-after CounterOnly = same .session
-    session-same-after Nothing = same .session
+    session-same-after TemporaryKeyAndCounter = same .session
+    session-same-after TemporaryKey = same .session
     session-same-after SessionKey =
         key-kept (d .keys) (formed-d .four) _
         ∙ ap (λ (bytes : List ℕ). record { there = true; bytes = bytes }) (new-key-same frame d e same passed)
@@ -159,8 +159,8 @@ module _
         (kind : Kind) → Facts kind (slotOf (d .image) own) → replyAfter (commandOf kind) d frame ≡ replyAfter (commandOf kind) e frame
     reply-same-after RootKeyAndCounter known = refl
     reply-same-after RootKey known = refl
-    reply-same-after CounterOnly known = refl
-    reply-same-after Nothing known = refl
+    reply-same-after TemporaryKeyAndCounter known = refl
+    reply-same-after TemporaryKey known = refl
     reply-same-after SessionKey known = refl
     reply-same-after Increment known = refl
     reply-same-after Request known = rw (key-there-same frame d e same, value-same frame d e same below known)

@@ -7,7 +7,7 @@ use lib.ListN.{replicate}
 use Rattle.words.specs.Choice.{pick}
 use Rattle.image.specs.Slot.{slotOf, isSet}
 use Rattle.frames.specs.declared.Class.{Class}
-use Rattle.frames.specs.declared.Class.the-variants.{Empty, EnableReset, Reset, Read, Command, Unnamed}
+use Rattle.frames.specs.declared.Class.the-variants.{Empty, EnableReset, Reset, Read, Unnamed, CommandFrame}
 use Rattle.frames.specs.Classes.{classOf}
 use Rattle.frames.specs.Layout.{counterOf}
 use Rattle.state.specs.Parts.{noJob, powerOn}
@@ -38,8 +38,8 @@ worked after frame a =
 -- the frame's own steps had set its counter: it was unset when the frame came, and is set now
 unfoldable pub hasSet : Account → Bool
 hasSet a =
-    pick (isSet (slotOf (a .asIf .image) (counterOf (a .frame)) .counter)) false
-    (isSet (slotOf (a .device .image) (counterOf (a .frame)) .counter))
+    pick (isSet (slotOf (a .asIf .image) (counterOf (a .frame)) .«counter_state»)) false
+    (isSet (slotOf (a .device .image) (counterOf (a .frame)) .«counter_state»))
 
 -- setting a counter to 0 only
 unfoldable pub setTo0 : Outcome → ℕ → Outcome
@@ -62,7 +62,7 @@ framed Empty bytes after a = goneBy after a
 framed EnableReset bytes after a = goneBy after a
 framed Reset bytes after a = pick (a .device .state .enabled) (cut after a) (goneBy after a)
 framed Read bytes after a = goneBy after a
-framed Command bytes after a = pick (isBusy (a .device)) (goneBy after a) (worked after bytes a)
+framed CommandFrame bytes after a = pick (isBusy (a .device)) (goneBy after a) (worked after bytes a)
 framed Unnamed bytes after a = goneBy after a
 
 -- one call more

@@ -10,8 +10,8 @@ use Rattle.rules.specs.Whole.{Outcome}
 -- per counter, the state words, the value while set and the key while root is set; not the key words under an unset root, nor a
 -- value word under an unset counter
 pub record Counter : Type 0 where
-  pub root : ℕ
-  pub counter : ℕ
+  pub rootState : ℕ
+  pub counterState : ℕ
   pub value : ℕ
   pub key : List ℕ
 
@@ -22,9 +22,9 @@ valueShown counter value = pick (isSet counter) value 0
 unfoldable pub counterIn : List ℕ → ℕ → Counter
 counterIn image c =
     record {
-      root = slotOf image c .root;
-      counter = slotOf image c .counter;
-      value = valueShown (slotOf image c .counter) (slotOf image c .value);
+      rootState = slotOf image c .«root_state»;
+      counterState = slotOf image c .«counter_state»;
+      value = valueShown (slotOf image c .«counter_state») (slotOf image c .value);
       key = rootKey image c;
     }
 

@@ -69,8 +69,8 @@ Good command d frame = signatureHolds command (frameKept frame) (signature comma
 -- a root key frame with a key that is not all FFh, for a counter with nothing set, and with a good signature
 pub record Pairs (d : Device) (frame : List ℕ) : Type 0 where
   pub in-order : InOrder 0 frame
-  pub root : slotFor d frame .root ≡ unset
-  pub counter : slotFor d frame .counter ≡ unset
+  pub root-unset : slotFor d frame .«root_state» ≡ unset
+  pub counter-unset : slotFor d frame .«counter_state» ≡ unset
   pub lasting : isTemporary (frameKept frame) ≡ false
   pub good : Good WriteRootKey d frame
 
@@ -81,23 +81,23 @@ Given P2 d frame = frame ≡ 0x9B ∷ 0x00 ∷ []
 Given P3 d frame = frame ≡ 0x9B ∷ 0x04 ∷ []
 Given P4 d frame = Shaped 0 frame × (counterOf frame ≡ 4)
 Given P5 d frame = Shaped 1 frame × (counterOf frame ≡ 4)
-Given P6 d frame = InOrder 1 frame × (isBad (slotFor d frame) ≡ false) × (isSet (slotFor d frame .counter) ≡ false)
+Given P6 d frame = InOrder 1 frame × (isBad (slotFor d frame) ≡ false) × (isSet (slotFor d frame .«counter_state») ≡ false)
 Given P7 d frame =
-    InOrder 3 frame × (isBad (slotFor d frame) ≡ false) × (isSet (slotFor d frame .counter) ≡ true)
+    InOrder 3 frame × (isBad (slotFor d frame) ≡ false) × (isSet (slotFor d frame .«counter_state») ≡ true)
     × (sessionKey (d .state) (counterOf frame) .there ≡ false)
-Given P8 d frame = InOrder 0 frame × (isBad (slotFor d frame) ≡ false) × (isSet (slotFor d frame .root) ≡ true)
+Given P8 d frame = InOrder 0 frame × (isBad (slotFor d frame) ≡ false) × (isSet (slotFor d frame .«root_state») ≡ true)
 Given P9-before-the-end d frame = Pairs d frame
 Given P9-at-the-end d frame = Pairs d frame
 Given P10-cut-before-the-end d frame = Pairs d frame
 Given P10-cut-before-the-counter d frame = Pairs d frame
 Given P11 d frame =
-    InOrder 0 frame × (slotFor d frame .root ≡ unset) × (slotFor d frame .counter ≡ 0) × (slotFor d frame .value ≡ 7)
+    InOrder 0 frame × (slotFor d frame .«root_state» ≡ unset) × (slotFor d frame .«counter_state» ≡ 0) × (slotFor d frame .value ≡ 7)
     × (isTemporary (frameKept frame) ≡ true) × Good WriteRootKey d frame
 Given P12 d frame =
-    InOrder 2 frame × (isBad (slotFor d frame) ≡ false) × (isSet (slotFor d frame .counter) ≡ true)
+    InOrder 2 frame × (isBad (slotFor d frame) ≡ false) × (isSet (slotFor d frame .«counter_state») ≡ true)
     × (sessionKey (d .state) (counterOf frame) .there ≡ true) × Good IncrementCounter d frame
     × (wordOr0 (frameKept frame) 4 ≡ 0xFFFFFFFF) × (slotFor d frame .value ≡ 0xFFFFFFFF)
-Given P13 d frame = InOrder 3 frame × (slotFor d frame .root ≡ 5)
+Given P13 d frame = InOrder 3 frame × (slotFor d frame .«root_state» ≡ 5)
 Given P14 d frame = frame ≡ []
 
 -- what is called, with an output buffer
@@ -120,25 +120,25 @@ script P13 frame output = Frame frame output ∷ []
 script P14 frame output = Frame (0x66 ∷ []) output ∷ Frame (0x96 ∷ 0x00 ∷ []) output ∷ Frame (0x99 ∷ []) output ∷ []
 
 -- idle, with this status
-abbrev pub Ends : ℕ → Device → Type 0
-Ends status d = (isBusy d ≡ false) × (d .state .status ≡ status)
+abbrev pub IdleWith : ℕ → Device → Type 0
+IdleWith status d = (isBusy d ≡ false) × (d .state .status ≡ status)
 
 -- what is seen
 abbrev pub Seen : Example → Device → List ℕ → Device → Type 0
 Seen P1 d frame after = after .state .status ≡ d .state .status
-Seen P2 d frame after = Ends 0x04 after
-Seen P3 d frame after = Ends 0x04 after
-Seen P4 d frame after = Ends 0x06 after
-Seen P5 d frame after = Ends 0x04 after
-Seen P6 d frame after = Ends 0x02 after
-Seen P7 d frame after = Ends 0x08 after
-Seen P8 d frame after = Ends 0x02 after
+Seen P2 d frame after = IdleWith 0x04 after
+Seen P3 d frame after = IdleWith 0x04 after
+Seen P4 d frame after = IdleWith 0x06 after
+Seen P5 d frame after = IdleWith 0x04 after
+Seen P6 d frame after = IdleWith 0x02 after
+Seen P7 d frame after = IdleWith 0x08 after
+Seen P8 d frame after = IdleWith 0x02 after
 Seen P9-before-the-end d frame after = (isBusy after ≡ true) × (after .state .status ≡ 0x01)
-Seen P9-at-the-end d frame after = Ends 0x80 after
+Seen P9-at-the-end d frame after = IdleWith 0x80 after
 Seen P10-cut-before-the-end d frame after =
-    (slotFor after frame .counter ≡ 0) × (slotFor after frame .value ≡ 0) × (slotFor after frame .root ≡ unset)
-Seen P10-cut-before-the-counter d frame after = (slotFor after frame .counter ≡ unset) × (slotFor after frame .root ≡ unset)
-Seen P11 d frame after = Ends 0x80 after × (slotFor after frame .value ≡ 7)
-Seen P12 d frame after = Ends 0x20 after
-Seen P13 d frame after = Ends 0x20 after
+    (slotFor after frame .«counter_state» ≡ 0) × (slotFor after frame .value ≡ 0) × (slotFor after frame .«root_state» ≡ unset)
+Seen P10-cut-before-the-counter d frame after = (slotFor after frame .«counter_state» ≡ unset) × (slotFor after frame .«root_state» ≡ unset)
+Seen P11 d frame after = IdleWith 0x80 after × (slotFor after frame .value ≡ 7)
+Seen P12 d frame after = IdleWith 0x20 after
+Seen P13 d frame after = IdleWith 0x20 after
 Seen P14 d frame after = (after .state .status ≡ d .state .status) × (after .state .keys ≡ d .state .keys) × (after .state .reply ≡ d .state .reply)

@@ -6,7 +6,7 @@ use mathlib.Core.List.{List, [], _∷_}
 use lib.Dec.{ltb, eqb}
 use lib.ListN.{length}
 use Rattle.words.specs.Choice.{pick}
-use Rattle.frames.specs.declared.Class.the-variants.{Command}
+use Rattle.frames.specs.declared.Class.the-variants.{CommandFrame}
 use Rattle.frames.specs.Classes.{classOf}
 use Rattle.jobs.specs.Jobs.{longest}
 use Rattle.frames.specs.Layout.{counterOf}
@@ -35,7 +35,7 @@ eachRun output (frame ∷ more) = Frame frame output ∷ Work longest ∷ eachRu
 -- command frames: 9Bh, two bytes or more
 unfoldable pub Commands : List (List ℕ) → Type 0
 Commands [] = Unit {0}
-Commands (frame ∷ more) = (classOf frame ≡ Command) × Commands more
+Commands (frame ∷ more) = (classOf frame ≡ CommandFrame) × Commands more
 
 -- the final status of each of a counter's own frames
 unfoldable pub ownStatuses : ℕ → List (List ℕ) → Outcome → List ℕ

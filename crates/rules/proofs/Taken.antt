@@ -16,20 +16,20 @@ use Rattle.image.specs.Slot.{slotOf, isSet}
 use Rattle.frames.specs.Layout.{typeOf, counterOf}
 use Rattle.jobs.specs.Jobs.{rootKind, kindOf}
 use Rattle.jobs.specs.declared.Kind.{Kind}
-use Rattle.jobs.specs.declared.Kind.the-variants.{RootKeyAndCounter, RootKey, CounterOnly, Nothing, SessionKey, Increment, Request}
+use Rattle.jobs.specs.declared.Kind.the-variants.{RootKeyAndCounter, RootKey, SessionKey, Increment, Request, TemporaryKeyAndCounter, TemporaryKey}
 use Rattle.checks.specs.Checks.{wrongState, notReady, checksOf, arrivalStatus}
 use Rattle.rules.specs.Whole.{Outcome, frameKept, isTemporary, kindIn, keyIn, statusOnArrival, allChecks, failedWith, carriedOut, whole}
 use Rattle.rules.proofs.TenChecks.{all-pass}
 
 -- what is known of the slot when a kind of job starts
 abbrev pub Facts : Kind → Slot → Type 0
-Facts RootKeyAndCounter slot = (isSet (slot .root) ≡ false) × (isSet (slot .counter) ≡ false)
-Facts RootKey slot = (isSet (slot .root) ≡ false) × (isSet (slot .counter) ≡ true)
-Facts CounterOnly slot = (isSet (slot .root) ≡ false) × (isSet (slot .counter) ≡ false)
-Facts Nothing slot = (isSet (slot .root) ≡ false) × (isSet (slot .counter) ≡ true)
+Facts RootKeyAndCounter slot = (isSet (slot .«root_state») ≡ false) × (isSet (slot .«counter_state») ≡ false)
+Facts RootKey slot = (isSet (slot .«root_state») ≡ false) × (isSet (slot .«counter_state») ≡ true)
+Facts TemporaryKeyAndCounter slot = (isSet (slot .«root_state») ≡ false) × (isSet (slot .«counter_state») ≡ false)
+Facts TemporaryKey slot = (isSet (slot .«root_state») ≡ false) × (isSet (slot .«counter_state») ≡ true)
 Facts SessionKey slot = Unit {0}
-Facts Increment slot = isSet (slot .counter) ≡ true
-Facts Request slot = isSet (slot .counter) ≡ true
+Facts Increment slot = isSet (slot .«counter_state») ≡ true
+Facts Request slot = isSet (slot .«counter_state») ≡ true
 
 -- check 7 passed: the counter is set
 ready : (s k : Bool) → pick s (not k) true ≡ false → s ≡ true
@@ -59,13 +59,13 @@ module _ (o : Outcome) (frame : List ℕ) (passed : statusOnArrival (o .image) (
   pub below-count : c < count (o .image)
   below-count = ltb-true c (count (o .image)) (not-false _ (row 4))
 
-  pub root-unset : eqb (typeOf frame) 0 ≡ true → isSet (slot .root) ≡ false
+  pub root-unset : eqb (typeOf frame) 0 ≡ true → isSet (slot .«root_state») ≡ false
   unfolding pick
   root-unset t = rw t at (row 6)
 
-  pub counter-set : eqb (typeOf frame) 0 ≡ false → eqb (typeOf frame) 1 ≡ false → isSet (slot .counter) ≡ true
+  pub counter-set : eqb (typeOf frame) 0 ≡ false → eqb (typeOf frame) 1 ≡ false → isSet (slot .«counter_state») ≡ true
   unfolding pick
-  counter-set t u = ready (isSet (slot .counter)) (keyIn o frame .there) (rw (above (typeOf frame) t u) at (row 7))
+  counter-set t u = ready (isSet (slot .«counter_state»)) (keyIn o frame .there) (rw (above (typeOf frame) t u) at (row 7))
 
   -- what is known of the slot, by the kind of job
   pub facts : Facts (kindIn o frame) slot
@@ -75,8 +75,8 @@ module _ (o : Outcome) (frame : List ℕ) (passed : statusOnArrival (o .image) (
       (λ t.
       let unset = root-unset t in
       either (λ kind. Facts kind slot) (isTemporary (frameKept frame)) _ _
-      (λ _. either (λ kind. Facts kind slot) (isSet (slot .counter)) _ _ (λ set. (unset, set)) (λ set. (unset, set)))
-      (λ _. either (λ kind. Facts kind slot) (isSet (slot .counter)) _ _ (λ set. (unset, set)) (λ set. (unset, set))))
+      (λ _. either (λ kind. Facts kind slot) (isSet (slot .«counter_state»)) _ _ (λ set. (unset, set)) (λ set. (unset, set)))
+      (λ _. either (λ kind. Facts kind slot) (isSet (slot .«counter_state»)) _ _ (λ set. (unset, set)) (λ set. (unset, set))))
       (λ t.
       either (λ kind. Facts kind slot) (eqb (typeOf frame) 1) _ _ (λ _. tt)
       (λ u. either (λ kind. Facts kind slot) (eqb (typeOf frame) 2) _ _ (λ _. counter-set t u) (λ _. counter-set t u)))

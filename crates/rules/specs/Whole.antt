@@ -14,7 +14,7 @@ use Rattle.hmac.specs.Hmac.{HMAC}
 use Rattle.image.specs.Header.{count}
 use Rattle.image.specs.Slot.{slotOf, rootKey}
 use Rattle.frames.specs.declared.Reply.{Reply}
-use Rattle.frames.specs.Layout.{Signer, KeySent, NewSessionKey, SessionKey, layoutOf, typeOf, counterOf, signedIn, dataIn}
+use Rattle.frames.specs.Layout.{Signer, layoutOf, typeOf, counterOf, signedIn, dataIn, BySentKey, ByNewSessionKey, BySessionKey}
 use Rattle.checks.specs.Checks.{checksOf, arrivalStatus}
 use Rattle.jobs.specs.Jobs.{commandOf, commandType, kindOf}
 use Rattle.jobs.specs.declared.Command.{Command}
@@ -43,7 +43,7 @@ isTemporary frame = sameBytes (dataIn 0 frame) (replicate 32 255)
 
 -- the kind of job that the frame starts
 abbrev pub kindIn : Outcome → List ℕ → Kind
-kindIn o frame = kindOf (typeOf frame) (isTemporary (frameKept frame)) (slotOf (o .image) (counterOf frame) .counter)
+kindIn o frame = kindOf (typeOf frame) (isTemporary (frameKept frame)) (slotOf (o .image) (counterOf frame) .«counter_state»)
 
 -- the counter value
 abbrev pub valueIn : Outcome → List ℕ → ℕ
@@ -59,9 +59,9 @@ newSessionKey o frame = HMAC (rootKey (o .image) (counterOf frame)) (dataIn 1 (f
 
 -- the signature that a frame has to have: whose key signs, and what is signed, says the table of frames
 abbrev pub signingKey : Signer → Outcome → List ℕ → List ℕ
-signingKey KeySent o frame = dataIn 0 (frameKept frame)
-signingKey NewSessionKey o frame = newSessionKey o frame
-signingKey SessionKey o frame = keyIn o frame .bytes
+signingKey BySentKey o frame = dataIn 0 (frameKept frame)
+signingKey ByNewSessionKey o frame = newSessionKey o frame
+signingKey BySessionKey o frame = keyIn o frame .bytes
 
 abbrev pub signature : Command → Outcome → List ℕ → List ℕ
 signature command o frame =

@@ -20,7 +20,7 @@ quarterOf step = pick (eqb (step % 4) 0) KeyIpad (pick (eqb (step % 4) 1) Messag
 -- 00: the key sent. 01: the root key in use, which gives the new session key, then the new session key. 02, 03: session key
 abbrev pub keyOf : Command → State → List ℕ
 keyOf WriteRootKey s = dataIn 0 (s .job .frame)
-keyOf UpdateSessionKey s = pick (ltb (s .job .step) 4) (s .job .root) (s .job .made)
+keyOf UpdateSessionKey s = pick (ltb (s .job .step) 4) (s .job .«root_key») (s .job .made)
 keyOf IncrementCounter s = sessionKey s (s .job .counter) .bytes
 keyOf RequestCounter s = sessionKey s (s .job .counter) .bytes
 

@@ -50,7 +50,7 @@ fn key_of(command: Command, s: State) -> [u8; 32]
             key_sent(frame)
         }
         Command::UpdateSessionKey => {
-            let in_use = job.root;
+            let in_use = job.root_key;
             let new = job.made;
             if job.step < 4 {
                 return in_use;

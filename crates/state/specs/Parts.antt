@@ -3,7 +3,7 @@ use Prim.Native.Nat.{ℕ}
 use mathlib.Core.Bool.{false}
 use lib.ListN.{getD, replicate}
 use Rattle.frames.specs.declared.Reply.{Reply}
-use Rattle.jobs.specs.declared.Kind.the-variants.{Nothing}
+use Rattle.jobs.specs.declared.Kind.the-variants.{TemporaryKey}
 use Rattle.state.specs.declared.Key.{Key}
 use Rattle.state.specs.declared.Job.{Job}
 use Rattle.state.specs.declared.State.{State}
@@ -18,11 +18,11 @@ abbrev pub noJob : Job
 noJob =
     record {
       there = false;
-      kind = Nothing;
+      kind = TemporaryKey;
       counter = 0;
       step = 0;
       frame = replicate 64 0;
-      root = replicate 32 0;
+      «root_key» = replicate 32 0;
       made = replicate 32 0;
       inner = replicate 8 0;
       kept = 0;

@@ -23,7 +23,7 @@ pub struct Job {
     pub counter: u8,
     pub step: u8,
     pub frame: [u8; 64],
-    pub root: [u8; 32],
+    pub root_key: [u8; 32],
     pub made: [u8; 32],
     pub inner: [u32; 8],
     pub kept: u32,
@@ -66,11 +66,11 @@ fn no_job() -> Job
 {
     Job {
         there: false,
-        kind: Kind::Nothing,
+        kind: Kind::TemporaryKey,
         counter: 0,
         step: 0,
         frame: [0u8; 64],
-        root: [0u8; 32],
+        root_key: [0u8; 32],
         made: [0u8; 32],
         inner: [0u32; 8],
         kept: 0,

@@ -14,7 +14,7 @@ returns c =
       c .before .before .before .if1 .taken,
       ← c .before .before .is-state2 .ensures,
       c .before .if2 .taken,
-      eq-eqb (c .before .before .before .before .before .args .slot .root) 0 (c .if3 .taken),
+      eq-eqb (c .before .before .before .before .before .args .slot .«root_state») 0 (c .if3 .taken),
     )
 
 returns-2 : tie.Need-returns-2
@@ -25,7 +25,7 @@ returns-2 c =
       c .before .before .before .if1 .taken,
       ← c .before .before .is-state2 .ensures,
       c .before .if2 .taken,
-      ne-eqb (c .before .before .before .before .before .args .slot .root) 0 (c .if3 .left),
+      ne-eqb (c .before .before .before .before .before .args .slot .«root_state») 0 (c .if3 .left),
     )
 
 returns-3 : tie.Need-returns-3
