@@ -44,7 +44,11 @@ fn job_of(image: &[u8], frame: &[u8]) -> Job
     let kept = frame_kept(frame);
     let slot = image::slot_of(image, counter);
     let root_key = image::root_key(image, counter);
-    let kind = jobs::kind_of(words::byte(frame, 1), is_temporary(kept), slot.counter_state);
+    let kind = jobs::kind_of(
+        words::byte(frame, 1),
+        is_temporary(kept),
+        slot.counter_state,
+    );
     Job {
         there: true,
         kind,

@@ -14,9 +14,9 @@ use Rattle.device.specs.Work.{Device, run, stepsDone}
 use Rattle.device.specs.Calls.{device, poweredUp, afterFrame, outputAfterFrame, afterSteps, afterWork, imageAfterWork, PowerUp, Frame, Work, after, called}
 
 -- a power-up changes no byte of the image, and gives the power-on state
-pub power-up-keeps : (d : Device) → called PowerUp d ≡ device (d .image) powerOn
+pub any-power-up : (d : Device) → called PowerUp d ≡ device (d .image) powerOn
 unfolding poweredUp
-power-up-keeps d = refl
+any-power-up d = refl
 
 module _ (d : Device) where
   abbrev refused : ℕ
@@ -46,10 +46,10 @@ module _ (d : Device) where
         number e = rw e
     frame-by false e nonzero = rw e
 
-    pub frame-refused :
+    pub refused-frame :
         (after (Frame bytes output) d .number ≡ 0 → ⊥) →
         after (Frame bytes output) d ≡ record { number = refused; steps = 0; output = output; device = d }
-    frame-refused nonzero = frame-by _ refl nonzero
+    refused-frame nonzero = frame-by _ refl nonzero
 
   -- a work call
   module _ (quota : ℕ) where
@@ -68,6 +68,6 @@ module _ (d : Device) where
         number e = rw e
     work-by false e nonzero = rw e
 
-    pub work-refused :
+    pub refused-work :
         (after (Work quota) d .number ≡ 0 → ⊥) → after (Work quota) d ≡ record { number = refused; steps = 0; output = []; device = d }
-    work-refused nonzero = work-by _ refl nonzero
+    refused-work nonzero = work-by _ refl nonzero

@@ -13,7 +13,7 @@ use Rattle.jobs.specs.Jobs.{longest}
 use Rattle.jobs.proofs.Longest.{at-most}
 use Rattle.state.proofs.Running.{step-left}
 use Rattle.device.specs.Work.{Device, stepped, run, within, stepsLeft}
-use Rattle.device.proofs.Ends.{rest, bound, step-less, bound-runs}
+use Rattle.steps.proofs.Less.{rest, bound, step-less, bound-runs}
 
 stepped-less : (d : Device) → isRunning (d .state) ≡ true → bound (stepped d .state) < rest (d .state)
 unfolding stepped

@@ -1,5 +1,4 @@
--- That a job ends, the laws of the steps left, what a call leaves, and that each public function has one answer only.
-pub mod Ends
+-- The laws of the steps left, what a call leaves, and that each public function has one answer only.
 pub mod Left
 pub mod AfterCalls
 pub mod OneAnswer

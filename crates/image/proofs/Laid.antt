@@ -16,6 +16,7 @@ use Rattle.words.proofs.Rows.{none-fails, no-test}
 use Rattle.words.proofs.Puts.{length-put, word-kept}
 use Rattle.image.specs.Header.{count, offset, slotSize, total, slotAt}
 use Rattle.image.specs.Refusal.{isSize, refusals, refusal}
+use Rattle.image.specs.Laid.{Laid}
 
 -- the words of a header stand before all stores
 pub record SameHeader (a b : List ℕ) : Type 0 where
@@ -60,13 +61,6 @@ same-place a b c h = rw (h .first, h .each)
 pub same-refusal : (a b : List ℕ) → SameHeader a b → refusal a ≡ refusal b
 unfolding refusal
 same-refusal a b h = rw (h .all, h .counters, h .first, h .each, h .size)
-
--- an image that the device accepts: what refusals 1 to 3 leave
-pub record Laid (image : List ℕ) : Type 0 where
-  pub each : isSize (slotSize image) ≡ true
-  pub first : 16 ≤ offset image
-  pub fits : offset image + slotSize image * count image ≤ length image
-  pub few : count image ≤ 4
 
 pub same-laid : (a b : List ℕ) → SameHeader a b → Laid b → Laid a
 same-laid a b h laid =

@@ -8,15 +8,18 @@ use mathlib.Core.List.{List}
 use native.Mathlib.Omega.{arith}
 use borrow.Author.Tests.{le-leb, ltb-true, ltb-false}
 use lib.Dec.{ltb}
-use lib.ListN.{length}
+use lib.ListN.{length, length-replicate}
 use Rattle.words.specs.Choice.{pick}
 use Rattle.words.specs.Table.{field}
 use Rattle.words.specs.Words.{wordAt, wordOr0, putWord, withWord}
+use Rattle.words.proofs.Choice.{either}
+use Rattle.words.proofs.Table.{length-table}
 use Rattle.words.proofs.Fields.{field-word, field-field}
 use Rattle.words.proofs.Puts.{Apart, field-put-in, field-put-out, word-same, word-apart}
 use Rattle.image.specs.Header.{count, slotSize, slotAt}
-use Rattle.image.specs.Slot.{slotOf}
-use Rattle.image.proofs.Laid.{SameHeader, header-put, Laid, same-place, wide, behind, room, in-order}
+use Rattle.image.specs.Slot.{slotOf, rootKey}
+use Rattle.image.proofs.Laid.{SameHeader, header-put, same-place, wide, behind, room, in-order}
+use Rattle.image.specs.Laid.{Laid}
 
 -- the word, and the field of n bytes, at a place of a slot
 abbrev pub slotWord : List ℕ → ℕ → ℕ → ℕ
@@ -52,6 +55,11 @@ module _ (image : List ℕ) (c : ℕ) (laid : Laid image) (below : c < count ima
 
 pub key-in : (image : List ℕ) (c : ℕ) → field (slotAt image c + 16) 32 image ≡ field 16 32 (slotBytes image c)
 key-in image c = sym (field-field (slotAt image c) 48 16 32 image (omega arith))
+
+pub length-root-key : (image : List ℕ) (c : ℕ) → length (rootKey image c) ≡ 32
+unfolding rootKey
+length-root-key image c =
+    either (λ (key : List ℕ). length key ≡ 32) _ _ _ (λ e. length-table _ 32) (λ e. length-replicate {A = ℕ} 32 255)
 
 -- one of two different numbers is below the other
 order-by : (m n : ℕ) → (m ≡ n → ⊥) → (b : Bool) → ltb m n ≡ b → (m < n) ⊎ (n < m)

@@ -2,3 +2,4 @@
 pub mod Header
 pub mod Slot
 pub mod Refusal
+pub mod Laid

@@ -8,18 +8,18 @@ use Rattle.jobs.specs.declared.Kind.the-variants.{RootKeyAndCounter, Roo
 use Rattle.jobs.specs.Jobs.{lengthOf, longestOf, longest}
 
 -- "busy clears after at most 15 steps"
-pub longest-is : longest ≡ 15
+pub longest-job : longest ≡ 15
 unfolding longest longestOf
-longest-is = refl
+longest-job = refl
 
 pub at-most : (kind : Kind) → lengthOf kind ≤ longest
-at-most RootKeyAndCounter = omega (arith, longest-is)
-at-most RootKey = omega (arith, longest-is)
-at-most TemporaryKeyAndCounter = omega (arith, longest-is)
-at-most TemporaryKey = omega (arith, longest-is)
-at-most SessionKey = omega (arith, longest-is)
-at-most Increment = omega (arith, longest-is)
-at-most Request = omega (arith, longest-is)
+at-most RootKeyAndCounter = omega (arith, longest-job)
+at-most RootKey = omega (arith, longest-job)
+at-most TemporaryKeyAndCounter = omega (arith, longest-job)
+at-most TemporaryKey = omega (arith, longest-job)
+at-most SessionKey = omega (arith, longest-job)
+at-most Increment = omega (arith, longest-job)
+at-most Request = omega (arith, longest-job)
 
 pub some-steps : (kind : Kind) → 0 < lengthOf kind
 some-steps RootKeyAndCounter = omega arith

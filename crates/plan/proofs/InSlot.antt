@@ -13,7 +13,8 @@ use Rattle.words.specs.Choice.{pick}
 use Rattle.words.specs.Words.{putWord}
 use Rattle.words.proofs.Choice.{both}
 use Rattle.image.specs.Header.{count, slotSize}
-use Rattle.image.proofs.Laid.{SameHeader, same-header, then-header, Laid, same-laid, wide}
+use Rattle.image.proofs.Laid.{SameHeader, same-header, then-header, same-laid, wide}
+use Rattle.image.specs.Laid.{Laid}
 use Rattle.image.proofs.Slots.{slotBytes, header-stored, front-stored, front-kept, front-other}
 use Rattle.jobs.specs.declared.Kind.{Kind}
 use Rattle.jobs.specs.declared.Kind.the-variants.{RootKeyAndCounter, RootKey, SessionKey, Increment, Request, TemporaryKeyAndCounter, TemporaryKey}

@@ -16,7 +16,7 @@ use Rattle.steps.specs.Step.{stepState}
 use Rattle.device.specs.Work.{Device, stepped, run, within, stepsLeft, stepsDone}
 use Rattle.device.specs.Calls.{Work, After, called}
 use Rattle.device.proofs.AfterCalls.{work-accepted}
-use Rattle.device.proofs.Ends.{rest, step-less, bound-runs}
+use Rattle.steps.proofs.Less.{rest, step-less, bound-runs}
 use Rattle.progress.proofs.Runs.{stepped-idle, run-idle, run-add}
 
 -- where a job runs after a step, one ran before it
@@ -41,8 +41,8 @@ idle-by d true e = absurd (omega (arith, left-after longest d e, step-left (run 
 idle-by d false e = e
 
 -- no job runs after the steps of the longest
-pub ends : (d : Device) → isRunning (run longest d .state) ≡ false
-ends d = idle-by d _ refl
+pub longest-is-enough : (d : Device) → isRunning (run longest d .state) ≡ false
+longest-is-enough d = idle-by d _ refl
 
 -- a device that is idle after some steps is the same after as many or more
 idle-after : (m n : ℕ) (d : Device) → isRunning (run n d .state) ≡ false → run (m + n) d ≡ run n d
@@ -52,7 +52,7 @@ idle-after m n d e = run-add m n d ∙ run-idle m (run n d) e
 pub same-end : (n : ℕ) (d : Device) → isRunning (run n d .state) ≡ false → run n d ≡ run longest d
 same-end n d e =
     let e₁ : longest + n ≡ n + longest = omega arith in
-    sym (idle-after longest n d e) ∙ rw e₁ (idle-after n longest d (ends d))
+    sym (idle-after longest n d e) ∙ rw e₁ (idle-after n longest d (longest-is-enough d))
 
 -- the steps left lead to the end of the job
 run-first : (n : ℕ) (d : Device) → run (suc n) d ≡ run n (stepped d)
@@ -85,7 +85,7 @@ within-ends (suc n) d e = within-by n d (within-ends n (stepped d)) (isRunning (
 left-ends-by : (d : Device) (b : Bool) → isRunning (run (stepsLeft d) d .state) ≡ b → isRunning (run (stepsLeft d) d .state) ≡ false
 unfolding stepsLeft
 left-ends-by d true e =
-    absurd (never (sym (ends d) ∙ ap (λ (n : ℕ). isRunning (run n d .state)) (sym (within-ends longest d e)) ∙ e))
+    absurd (never (sym (longest-is-enough d) ∙ ap (λ (n : ℕ). isRunning (run n d .state)) (sym (within-ends longest d e)) ∙ e))
 left-ends-by d false e = e
 
 pub left-ends : (d : Device) → isRunning (run (stepsLeft d) d .state) ≡ false

@@ -5,16 +5,17 @@ use mathlib.Core.Bool.{Bool, true, false}
 use mathlib.Core.List.{List, _++_}
 use native.Mathlib.Omega.{arith}
 use lib.Dec.{eqb}
-use lib.ListN.{length, getD, replicate, length-append, length-replicate}
+use lib.ListN.{length, getD, replicate, length-append}
 use Rattle.words.specs.Choice.{pick}
 use Rattle.words.specs.Words.{bytesOf, bytesOfAll}
 use Rattle.words.proofs.Table.{length-table}
-use Rattle.words.proofs.Choice.{either}
+use Rattle.words.proofs.Fields.{field-within}
 use Rattle.words.specs.Table.{field}
 use Rattle.hmac.specs.Hmac.{HMAC}
 use Rattle.hmac.proofs.FourBlocks.{fourth, fourth-hmac}
 use Rattle.hmac.proofs.Lengths.{length-HMAC}
 use Rattle.image.specs.Slot.{rootKey}
+use Rattle.image.proofs.Slots.{length-root-key}
 use Rattle.jobs.specs.Jobs.{lengthOf, commandOf, hashSteps, longest}
 use Rattle.jobs.proofs.Longest.{at-most}
 use Rattle.jobs.specs.declared.Kind.{Kind}
@@ -36,15 +37,6 @@ use Rattle.progress.proofs.Runs.{run-not-taken, run-add}
 use Rattle.progress.proofs.Hashing.{busy, begun, fourthAt, secondAt, hashedAt, afterFour, four-steps, four-more-steps}
 use Rattle.progress.proofs.Storing.{stored-all, stored-request, stored-session}
 use Rattle.progress.proofs.Ended.{ended}
-
--- a message of a frame's field fits one block
-pub short : (at n : ℕ) (s : List ℕ) → n ≤ 55 → length (field at n s) ≤ 55
-short at n s h = rw (length-table (λ i. getD s (at + i) 0) n) h
-
-pub length-root : (image : List ℕ) (counter : ℕ) → length (rootKey image counter) ≡ 32
-unfolding rootKey
-length-root image counter =
-    either (λ (key : List ℕ). length key ≡ 32) _ _ _ (λ e. length-table _ 32) (λ e. length-replicate {A = ℕ} 32 255)
 
 length-signed : (tag : List ℕ) (value : ℕ) → length (field 4 12 tag ++ bytesOf value) ≤ 55
 length-signed tag value =
@@ -77,18 +69,18 @@ module _ (d : Device) (frame : List ℕ) (formed : length (keyIn (outcome d) fra
       pick (eqb (lastStatus (commandOf kind) (outcome d) frame) 0) (carriedOut kind (outcome d) frame) (failedWith (lastStatus (commandOf kind) (outcome d) frame) (outcome d))
 
   root-digest : bytesOfAll (digest TemporaryKey) ≡ signature (commandOf TemporaryKey) (outcome d) frame
-  root-digest = fourth-hmac (field 4 32 sent) (field 0 4 sent) _ _ (length-table _ 32) (short 0 4 sent (omega arith))
+  root-digest = fourth-hmac (field 4 32 sent) (field 0 4 sent) _ _ (length-table _ 32) (field-within 0 4 55 sent (omega arith))
 
   increment-digest : bytesOfAll (digest Increment) ≡ signature (commandOf Increment) (outcome d) frame
-  increment-digest = fourth-hmac (keyIn (outcome d) frame .bytes) (field 0 8 sent) _ _ formed (short 0 8 sent (omega arith))
+  increment-digest = fourth-hmac (keyIn (outcome d) frame .bytes) (field 0 8 sent) _ _ formed (field-within 0 8 55 sent (omega arith))
 
   request-digest : bytesOfAll (digest Request) ≡ signature (commandOf Request) (outcome d) frame
   unfolding pick
-  request-digest = fourth-hmac (keyIn (outcome d) frame .bytes) (field 0 16 sent) _ _ formed (short 0 16 sent (omega arith))
+  request-digest = fourth-hmac (keyIn (outcome d) frame .bytes) (field 0 16 sent) _ _ formed (field-within 0 16 55 sent (omega arith))
 
   key-made : bytesOfAll (digest SessionKey) ≡ newSessionKey (outcome d) frame
   unfolding pick
-  key-made = fourth-hmac root (field 4 4 sent) _ _ (length-root (d .image) (counterOf frame)) (short 4 4 sent (omega arith))
+  key-made = fourth-hmac root (field 4 4 sent) _ _ (length-root-key (d .image) (counterOf frame)) (field-within 4 4 55 sent (omega arith))
 
   -- the decision on a digest is the decision on the HMAC that it is
   same-decision :
@@ -149,7 +141,7 @@ module _ (d : Device) (frame : List ℕ) (formed : length (keyIn (outcome d) fra
       (failedWith (lastStatus (commandOf SessionKey) (outcome d) frame) (outcome d))
   unfolding carriedOut failedWith withKept allStored
   session-ended chain inner made size e =
-      let signed = fourth-hmac made (field 0 8 sent) chain inner size (short 0 8 sent (omega arith)) in
+      let signed = fourth-hmac made (field 0 8 sent) chain inner size (field-within 0 8 55 sent (omega arith)) in
       let more : later ≡ (later - 4) + 4 = omega (arith, enough SessionKey) in
       rw (
         more,

@@ -8,7 +8,7 @@ use Rattle.words.specs.Table.{table, spread, field}
 use Rattle.words.specs.Words.{wordOf, wordAt, wordOr0, bytesOfAll, putWord}
 use Rattle.image.specs.Header.{count}
 use Rattle.image.specs.Slot.{isSet, rootKey}
-use Rattle.image.proofs.Laid.{Laid}
+use Rattle.image.specs.Laid.{Laid}
 use Rattle.image.proofs.Slots.{slotBytes, root-in, counter-in, value-in, key-in}
 use Rattle.jobs.specs.declared.Kind.{Kind}
 use Rattle.jobs.specs.declared.Kind.the-variants.{RootKeyAndCounter, RootKey, SessionKey, Increment, Request, TemporaryKeyAndCounter, TemporaryKey}

@@ -9,20 +9,20 @@ use Rattle.promises.proofs.ExamplesJobs.{busy-before-the-end, done-at-t
 use Rattle.promises.proofs.ExamplesCuts.{cut-before-the-end, cut-before-the-counter}
 
 -- A ready device that is given what a row says, and called as it says, shows what it says.
-pub examples : (p : Example) (d : Device) (frame output : List ℕ) → Ready d → Given p d frame → Seen p d frame (allCalled (script p frame output) d)
-examples P1 d frame output ready = alone d ready frame output
-examples P2 d frame output ready = short d ready frame output
-examples P3 d frame output ready = unknown-type d ready frame output
-examples P4 d frame output ready = root-key-beyond d ready frame output
-examples P5 d frame output ready = session-key-beyond d ready frame output
-examples P6 d frame output ready = session-key-unset d ready frame output
-examples P7 d frame output ready = request-without-key d ready frame output
-examples P8 d frame output ready = root-key-set d ready frame output
-examples P9-before-the-end d frame output ready = busy-before-the-end d ready frame output
-examples P9-at-the-end d frame output ready = done-at-the-end d ready frame output
-examples P10-cut-before-the-end d frame output ready = cut-before-the-end d ready frame output
-examples P10-cut-before-the-counter d frame output ready = cut-before-the-counter d ready frame output
-examples P11 d frame output ready = temporary-key d ready frame output
-examples P12 d frame output ready = full-counter d ready frame output
-examples P13 d frame output ready = bad-slot d ready frame output
-examples P14 d frame output ready = no-reset d ready frame output
+pub cases-marked-P : (p : Example) (d : Device) (frame output : List ℕ) → Ready d → Given p d frame → Seen p d frame (allCalled (script p frame output) d)
+cases-marked-P P1 d frame output ready = alone d ready frame output
+cases-marked-P P2 d frame output ready = short d ready frame output
+cases-marked-P P3 d frame output ready = unknown-type d ready frame output
+cases-marked-P P4 d frame output ready = root-key-beyond d ready frame output
+cases-marked-P P5 d frame output ready = session-key-beyond d ready frame output
+cases-marked-P P6 d frame output ready = session-key-unset d ready frame output
+cases-marked-P P7 d frame output ready = request-without-key d ready frame output
+cases-marked-P P8 d frame output ready = root-key-set d ready frame output
+cases-marked-P P9-before-the-end d frame output ready = busy-before-the-end d ready frame output
+cases-marked-P P9-at-the-end d frame output ready = done-at-the-end d ready frame output
+cases-marked-P P10-cut-before-the-end d frame output ready = cut-before-the-end d ready frame output
+cases-marked-P P10-cut-before-the-counter d frame output ready = cut-before-the-counter d ready frame output
+cases-marked-P P11 d frame output ready = temporary-key d ready frame output
+cases-marked-P P12 d frame output ready = full-counter d ready frame output
+cases-marked-P P13 d frame output ready = bad-slot d ready frame output
+cases-marked-P P14 d frame output ready = no-reset d ready frame output

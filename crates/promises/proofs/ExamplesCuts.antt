@@ -9,7 +9,8 @@ use Rattle.words.specs.Table.{table}
 use Rattle.words.specs.Words.{wordAt, putWord}
 use Rattle.image.specs.Header.{count}
 use Rattle.image.specs.Slot.{slotOf, unset}
-use Rattle.image.proofs.Laid.{Laid, same-laid, accepted-laid}
+use Rattle.image.proofs.Laid.{same-laid, accepted-laid}
+use Rattle.image.specs.Laid.{Laid}
 use Rattle.image.proofs.Slots.{slotBytes, root-in, counter-in}
 use Rattle.jobs.specs.declared.Kind.the-variants.{RootKeyAndCounter}
 use Rattle.frames.specs.Layout.{counterOf}

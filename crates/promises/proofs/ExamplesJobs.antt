@@ -33,7 +33,7 @@ use Rattle.device.specs.Calls.{device, Frame, Work, called, outcome}
 use Rattle.progress.proofs.Runs.{run-add}
 use Rattle.progress.proofs.Hashing.{busy, begun, hashedAt, afterFour, four-steps}
 use Rattle.progress.proofs.Stores.{stores-left, all-made}
-use Rattle.progress.proofs.RunsWhole.{short}
+use Rattle.words.proofs.Fields.{field-within}
 use Rattle.promises.specs.Orders.{allCalled}
 use Rattle.promises.specs.Examples.{P9-before-the-end, P9-at-the-end, P11, P12, Ready, slotFor, InOrder, Good, Pairs, Seen, IdleWith}
 use Rattle.promises.proofs.Sound.{started}
@@ -89,7 +89,7 @@ module _ (d : Device) (ready : Ready d) (frame output : List ℕ) where
   root-good : Good WriteRootKey d frame → decisionOf (hashed TemporaryKey) (valueIn (outcome d) frame) ≡ 0
   unfolding decision firstOf pick
   root-good good =
-      rw (fourth-hmac (field 4 32 sent) (field 0 4 sent) (d .state .chain) (replicate 8 0) (length-table _ 32) (short 0 4 sent (omega arith)), good)
+      rw (fourth-hmac (field 4 32 sent) (field 0 4 sent) (d .state .chain) (replicate 8 0) (length-table _ 32) (field-within 0 4 55 sent (omega arith)), good)
 
   -- a good increment at FFFFFFFFh does not
   increment-full :
@@ -98,7 +98,7 @@ module _ (d : Device) (ready : Ready d) (frame output : List ℕ) where
   unfolding decision firstOf pick
   increment-full good told full =
       rw (
-        fourth-hmac (keyIn (outcome d) frame .bytes) (field 0 8 sent) (d .state .chain) (replicate 8 0) (ready .long-keys c) (short 0 8 sent (omega arith)),
+        fourth-hmac (keyIn (outcome d) frame .bytes) (field 0 8 sent) (d .state .chain) (replicate 8 0) (ready .long-keys c) (field-within 0 8 55 sent (omega arith)),
         good,
         told,
         full,

@@ -133,10 +133,10 @@ at-rest a sound none = ⊎-elim (λ r. r) (λ w. absurd (never (sym none ∙ w .
 
 -- Power up on an accepted image. After any order of calls, once idle, the device shows what it would show if the command frames
 -- that found it idle had run whole, in order, with resets and cuts where they fell.
-pub first-half :
+pub as-if-whole :
     (image : List ℕ) → refusal image ≡ 0 → (calls : List Call) → isBusy (account calls (begun image) .device) ≡ false →
     Alike (outcome (account calls (begun image) .device)) (account calls (begun image) .asIf)
-first-half image accepted calls none =
+as-if-whole image accepted calls none =
     at-rest (account calls (begun image)) (all-sound calls (begun image) (start-sound image accepted)) none .alike
 
 done : (call : Call) (a : Account) → Sound a → after call (a .device) .number ≡ 0
@@ -146,9 +146,9 @@ done (Frame bytes output) a sound = ap (λ (r : After). r .number) (frame-done a
 done (Work quota) a sound = ap (λ (r : After). r .number) (work-done a sound quota)
 
 -- No call of the order is refused.
-pub none-refused :
+pub never-refused :
     (image : List ℕ) → refusal image ≡ 0 → (calls : List Call) (call : Call) → after call (account calls (begun image) .device) .number ≡ 0
-none-refused image accepted calls call = done call (account calls (begun image)) (all-sound calls (begun image) (start-sound image accepted))
+never-refused image accepted calls call = done call (account calls (begun image)) (all-sound calls (begun image) (start-sound image accepted))
 
 -- the device of the account is the device
 pub same-device : (call : Call) (a : Account) → accounted call a .device ≡ called call (a .device)

@@ -16,20 +16,20 @@ use Rattle.promises.specs.Compared.{Alike}
 use Rattle.promises.specs.Orders.{allCalled}
 use Rattle.promises.specs.Account.{isBusy, account, begun}
 use Rattle.promises.specs.Functions.{Did, Ran}
-use Rattle.promises.proofs.FirstHalf.{first-half, same-devices}
+use Rattle.promises.proofs.FirstHalf.{same-devices, as-if-whole}
 
 -- a function leaves what the definitions say
-pub did-after : (call : Call) (d : Device) (r : After) → Did call d r → after call d ≡ r
-did-after PowerUp d r c =
+pub functions-leave : (call : Call) (d : Device) (r : After) → Did call d r → after call d ≡ r
+functions-leave PowerUp d r c =
     let image = now (c .args .0) in
     ap (λ (i : List ℕ). leaving (poweredUp i) [] i) (sym (c .given)) ∙ ap (λ (a : Answer). leaving a [] image) (sym (c .contract)) ∙ c .left
-did-after (Frame bytes output) d r c =
+functions-leave (Frame bytes output) d r c =
     let image = now (c .args .0) in
     let s = c .args .1 .0 in
     ap (after (Frame bytes output)) (sym (c .given .0))
     ∙ ap₂ (λ (b o : List ℕ). after (Frame b o) (device image s)) (sym (c .given .1)) (sym (c .given .2))
     ∙ ap₂ (λ (a : Answer) (o : List ℕ). leaving a o image) (sym (c .contract .0)) (sym (c .contract .1)) ∙ c .left
-did-after (Work quota) d r c =
+functions-leave (Work quota) d r c =
     let image = now (c .args .0) in
     let s = c .args .1 .0 in
     ap (after (Work quota)) (sym (c .given .0)) ∙ ap (λ (n : ℕ). after (Work n) (device image s)) (sym (c .given .1))
@@ -40,16 +40,16 @@ pub ran-called : (calls : List Call) (d e : Device) → Ran calls d e → allCal
 unfolding allCalled Ran
 ran-called [] d e ran = ran
 ran-called (call ∷ more) d e ran =
-    ap (λ (r : After). allCalled more (r .device)) (did-after call d (ran .between) (ran .did))
+    ap (λ (r : After). allCalled more (r .device)) (functions-leave call d (ran .between) (ran .did))
     ∙ ran-called more (ran .between .device) e (ran .more)
 
 -- Power up on an accepted image, then any calls, each handed what the one before it left. Once idle, the device shows what it would
 -- show if the command frames that found it idle had run whole.
-pub functions-first-half :
+pub functions-as-if-whole :
     (calls : List Call) (d e : Device) → refusal (d .image) ≡ 0 → Ran (PowerUp ∷ calls) d e → isBusy e ≡ false →
     Alike (outcome e) (account calls (begun (d .image)) .asIf)
 unfolding allCalled poweredUp
-functions-first-half calls d e accepted ran idle =
+functions-as-if-whole calls d e accepted ran idle =
     let same : account calls (begun (d .image)) .device ≡ e = same-devices calls (begun (d .image)) ∙ ran-called (PowerUp ∷ calls) d e ran in
     subst (λ (x : Device). Alike (outcome x) (account calls (begun (d .image)) .asIf)) same
-    (first-half (d .image) accepted calls (ap isBusy same ∙ idle))
+    (as-if-whole (d .image) accepted calls (ap isBusy same ∙ idle))

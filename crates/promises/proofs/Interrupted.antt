@@ -10,10 +10,12 @@ use borrow.Author.Tests.{eqb-true, eqb-false}
 use lib.Dec.{eqb}
 use lib.ListN.{getD, take}
 use Rattle.words.specs.Choice.{pick}
+use Rattle.words.proofs.Choice.{same-not-new}
 use Rattle.words.specs.Table.{table}
 use Rattle.image.specs.Header.{count, slotAt}
 use Rattle.image.specs.Slot.{slotOf, isSet}
-use Rattle.image.proofs.Laid.{SameHeader, then-header, back-header, Laid, same-laid}
+use Rattle.image.proofs.Laid.{SameHeader, then-header, back-header, same-laid}
+use Rattle.image.specs.Laid.{Laid}
 use Rattle.image.proofs.Slots.{slotBytes, root-in, counter-in}
 use Rattle.jobs.specs.Jobs.{commandOf, hashSteps}
 use Rattle.jobs.specs.declared.Kind.{Kind}
@@ -32,11 +34,6 @@ use Rattle.promises.proofs.Counters.{readCounter, counter-read}
 use Rattle.promises.proofs.WholeOwn.{own-after, other-after}
 use Rattle.promises.proofs.Cuts.{zeroed, Known, Cut, cut-off}
 use Rattle.promises.proofs.Sound.{Working}
-
-same-not-new : (x : Bool) → pick x false x ≡ false
-unfolding pick
-same-not-new true = refl
-same-not-new false = refl
 
 -- what an interrupted frame counts as, compared with the image that it leaves
 pub record Left (image : List ℕ) (o : Outcome) : Type 0 where

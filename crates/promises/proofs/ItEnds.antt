@@ -91,16 +91,16 @@ module _ (image : List ℕ) (accepted : refusal image ≡ 0) (calls : List Call)
   sound : Sound a
   sound = all-sound calls (begun image) (start-sound image accepted)
 
-  pub idle-after-longest : (quota : ℕ) → longest ≤ quota → isBusy (called (Work quota) (a .device)) ≡ false
-  idle-after-longest quota enough = idle-after-work a sound quota enough
+  pub it-ends : (quota : ℕ) → longest ≤ quota → isBusy (called (Work quota) (a .device)) ≡ false
+  it-ends quota enough = idle-after-work a sound quota enough
 
   -- A job that is there grows older by the steps that each call reports, and has done fewer than the longest has.
-  pub steps-counted :
+  pub every-step-counts :
       (call : Call) → isBusy (a .device) ≡ true → isBusy (called call (a .device)) ≡ true →
       called call (a .device) .state .job .step ≡ after call (a .device) .steps + a .device .state .job .step
-  steps-counted call busy still = older a sound busy call still
+  every-step-counts call busy still = older a sound busy call still
 
-  pub fewer-than-longest : isBusy (a .device) ≡ true → a .device .state .job .step < longest
-  fewer-than-longest busy =
+  pub never-longer : isBusy (a .device) ≡ true → a .device .state .job .step < longest
+  never-longer busy =
       ⊎-elim (λ r. absurd (never (sym (r .none) ∙ busy)))
       (λ w. omega (arith, w .left, w .at .step, at-most (kindIn (outcome (w .found)) (a .frame)))) (sound .state)

@@ -8,14 +8,14 @@ use lib.ListN.{length, getD}
 use Rattle.image.specs.Header.{count}
 use Rattle.image.specs.Refusal.{refusal}
 use Rattle.jobs.specs.Jobs.{longest}
-use Rattle.jobs.proofs.Longest.{longest-is}
+use Rattle.jobs.proofs.Longest as Longest
 use Rattle.state.specs.Parts.{noKey, powerOn}
 use Rattle.state.specs.Refusal.{isRunning, deviceRefusal}
 use Rattle.device.specs.Work.{Device, run}
 use Rattle.device.specs.Calls.{device, After, Call, PowerUp, Frame, Work, called, after, outcome}
-use Rattle.device.proofs.AfterCalls.{power-up-keeps, frame-refused, work-refused}
-use Rattle.progress.proofs.Ends.{ends}
-use Rattle.rules.proofs.TooShort.{short-refused}
+use Rattle.device.proofs.AfterCalls as AfterCalls
+use Rattle.progress.proofs.Ends as Ends
+use Rattle.rules.proofs.TooShort as TooShort
 use Rattle.rules.specs.Whole.{Outcome, failedWith, whole}
 use Rattle.promises.specs.Compared.{counterIn, Alike}
 use Rattle.promises.specs.Orders.{allCalled}
@@ -23,31 +23,32 @@ use Rattle.promises.specs.Account.{isBusy, account, begun}
 use Rattle.promises.specs.Reordering.{ownFrames, allWhole, ownStatuses, eachRun, Commands}
 use Rattle.promises.specs.Examples.{Example, Ready, Given, script, Seen}
 use Rattle.promises.specs.Formed.{Formed}
-use Rattle.promises.proofs.FirstHalf.{all-sound, start-sound, first-half, none-refused}
+use Rattle.promises.proofs.FirstHalf as FirstHalf
+use Rattle.promises.proofs.FirstHalf.{all-sound, start-sound}
 use Rattle.promises.proofs.SecondHalf.{same-counter, same-session, same-statuses}
 use Rattle.promises.proofs.Reordered.{reordered-counter, reordered-session}
-use Rattle.promises.proofs.ItEnds.{idle-after-longest, steps-counted, fewer-than-longest}
+use Rattle.promises.proofs.ItEnds as ItEnds
 use Rattle.promises.specs.Functions.{Did, Ran}
-use Rattle.promises.proofs.Functions.{did-after, functions-first-half}
-use Rattle.promises.proofs.Examples.{examples}
+use Rattle.promises.proofs.Functions as Functions
+use Rattle.promises.proofs.Examples as Examples
 
 -- "Whatever the order of frames, steps, resets and power cuts, once idle the device is as if the frames that found it idle had run
 -- whole." Powered up on an accepted image; what would be is `account`, what is compared is `Alike`.
 pub as-if-whole :
     (image : List ℕ) → refusal image ≡ 0 → (calls : List Call) → isBusy (account calls (begun image) .device) ≡ false →
     Alike (outcome (account calls (begun image) .device)) (account calls (begun image) .asIf)
-as-if-whole = first-half
+as-if-whole = FirstHalf.as-if-whole
 
 -- The same of a run made of calls of the functions power_up, frame and work, of which only the contracts are used. "Each call is
 -- handed the state and the image that the one before it left."
 pub functions-as-if-whole :
     (calls : List Call) (d e : Device) → refusal (d .image) ≡ 0 → Ran (PowerUp ∷ calls) d e → isBusy e ≡ false →
     Alike (outcome e) (account calls (begun (d .image)) .asIf)
-functions-as-if-whole = functions-first-half
+functions-as-if-whole = Functions.functions-as-if-whole
 
 -- Each of these functions leaves what is said of its call, number, steps, output, image and state.
 pub functions-leave : (call : Call) (d : Device) (r : After) → Did call d r → after call d ≡ r
-functions-leave = did-after
+functions-leave = Functions.functions-leave
 
 -- "Frames on different counters commute." Of frames that run whole, in two orders in which a counter has the same frames in the same
 -- order: no counter, no key and no frame's own final status changes. "A two-byte one belongs to no counter", and ends with 04h.
@@ -59,7 +60,7 @@ counters-commute c fs gs o formed order =
     (same-counter c fs gs o formed order, same-session c fs gs o formed order, same-statuses c fs gs o formed order)
 
 pub two-bytes-fail : (o : Outcome) (frame : List ℕ) → length frame ≤ 2 → whole o frame ≡ failedWith 0x04 o
-two-bytes-fail = short-refused
+two-bytes-fail = TooShort.two-bytes-fail
 
 -- The same of the device, after any calls that leave it idle: each command frame is sent and gets the steps of the longest job.
 pub device-commutes :
@@ -80,47 +81,47 @@ device-commutes image accepted calls quiet output fs gs commands-f commands-g c 
 -- "So busy clears after at most 15 steps", which the longest job has: after as many no job runs, of any device, and a work call with
 -- that quota leaves the device idle after any calls; a job that is there is older by the steps that each call reports.
 pub longest-job : longest ≡ 15
-longest-job = longest-is
+longest-job = Longest.longest-job
 
 pub longest-is-enough : (d : Device) → isRunning (run longest d .state) ≡ false
-longest-is-enough = ends
+longest-is-enough = Ends.longest-is-enough
 
 pub it-ends :
     (image : List ℕ) → refusal image ≡ 0 → (calls : List Call) (quota : ℕ) → longest ≤ quota →
     isBusy (called (Work quota) (account calls (begun image) .device)) ≡ false
-it-ends = idle-after-longest
+it-ends = ItEnds.it-ends
 
 pub every-step-counts :
     (image : List ℕ) → refusal image ≡ 0 → (calls : List Call) (call : Call) → isBusy (account calls (begun image) .device) ≡ true →
     isBusy (called call (account calls (begun image) .device)) ≡ true →
     called call (account calls (begun image) .device) .state .job .step ≡
     after call (account calls (begun image) .device) .steps + account calls (begun image) .device .state .job .step
-every-step-counts = steps-counted
+every-step-counts = ItEnds.every-step-counts
 
 pub never-longer :
     (image : List ℕ) → refusal image ≡ 0 → (calls : List Call) → isBusy (account calls (begun image) .device) ≡ true →
     account calls (begun image) .device .state .job .step < longest
-never-longer = fewer-than-longest
+never-longer = ItEnds.never-longer
 
 -- "Refused calls change no lent byte, return the state handed in and report 0 steps; a refused power-up returns the power-on state."
 pub refused-frame :
     (d : Device) (bytes output : List ℕ) → (after (Frame bytes output) d .number ≡ 0 → ⊥) →
     after (Frame bytes output) d ≡ record { number = deviceRefusal (d .image) (d .state); steps = 0; output = output; device = d }
-refused-frame = frame-refused
+refused-frame = AfterCalls.refused-frame
 
 pub refused-work :
     (d : Device) (quota : ℕ) → (after (Work quota) d .number ≡ 0 → ⊥) →
     after (Work quota) d ≡ record { number = deviceRefusal (d .image) (d .state); steps = 0; output = []; device = d }
-refused-work = work-refused
+refused-work = AfterCalls.refused-work
 
 pub any-power-up : (d : Device) → called PowerUp d ≡ device (d .image) powerOn
-any-power-up = power-up-keeps
+any-power-up = AfterCalls.any-power-up
 
 -- "A refused call is no part of the order": and in an order from an accepted image there is none.
 pub never-refused :
     (image : List ℕ) → refusal image ≡ 0 → (calls : List Call) (call : Call) → after call (account calls (begun image) .device) .number ≡ 0
-never-refused = none-refused
+never-refused = FirstHalf.never-refused
 
 -- "Cases marked P are proved about the specification, as a single table under one theorem."
 pub cases-marked-P : (p : Example) (d : Device) (frame output : List ℕ) → Ready d → Given p d frame → Seen p d frame (allCalled (script p frame output) d)
-cases-marked-P = examples
+cases-marked-P = Examples.cases-marked-P

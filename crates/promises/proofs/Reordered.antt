@@ -6,7 +6,7 @@ use mathlib.Core.List.{List, [], _∷_}
 use native.Mathlib.Omega.{arith}
 use lib.ListN.{getD}
 use Rattle.words.specs.Choice.{pick}
-use Rattle.words.proofs.Choice.{never}
+use Rattle.words.proofs.Choice.{otherwise}
 use Rattle.image.specs.Header.{count}
 use Rattle.frames.specs.declared.Class.{Class}
 use Rattle.frames.specs.declared.Class.the-variants.{CommandFrame}
@@ -26,11 +26,6 @@ use Rattle.promises.proofs.Calls.{formed-as-if}
 use Rattle.promises.proofs.FirstHalf.{next, all-sound, at-rest, same-device}
 use Rattle.promises.proofs.ItEnds.{idle-after-work}
 use Rattle.promises.proofs.SecondHalf.{header-all, same-counter, same-session}
-
-otherwise : {A : Type 0} (t : Bool) (x y : A) → t ≡ false → pick t x y ≡ y
-unfolding pick
-otherwise true x y e = absurd (never (sym e))
-otherwise false x y e = refl
 
 -- an idle account after a frame and the steps of its job: the frame has run whole
 module _

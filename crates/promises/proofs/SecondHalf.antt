@@ -14,7 +14,7 @@ use Rattle.image.specs.Header.{count}
 use Rattle.image.proofs.Laid.{SameHeader, same-header, then-header, back-header}
 use Rattle.frames.specs.Layout.{counterOf}
 use Rattle.state.specs.Parts.{noKey}
-use Rattle.rules.proofs.TooShort.{short-refused}
+use Rattle.rules.proofs.TooShort.{two-bytes-fail}
 use Rattle.rules.specs.Whole.{Outcome, failedWith, whole}
 use Rattle.promises.specs.Compared.{counterIn}
 use Rattle.promises.specs.Reordering.{belongs, ownFrames, allWhole, ownStatuses}
@@ -76,7 +76,7 @@ module _ (c : ℕ) (frame : List ℕ) (o p : Outcome) (same : SameOf c o p) wher
   -- nobody's frame, in one
   short-frame : length frame ≤ 2 → SameOf c (whole o frame) p
   unfolding failedWith
-  short-frame h = subst (λ (q : Outcome). SameOf c q p) (sym (short-refused o frame h)) left-alone
+  short-frame h = subst (λ (q : Outcome). SameOf c q p) (sym (two-bytes-fail o frame h)) left-alone
     where
       left-alone : SameOf c (failedWith 0x04 o) p
       left-alone =

@@ -13,7 +13,7 @@ use Rattle.words.specs.Choice.{pick}
 use Rattle.words.specs.Table.{field}
 use Rattle.words.specs.Words.{wordAt, putWord}
 use Rattle.words.proofs.Choice.{never, both}
-use Rattle.words.proofs.Fields.{field-word}
+use Rattle.words.proofs.Fields.{same-word}
 use Rattle.words.proofs.Puts.{field-put-out}
 use Rattle.image.specs.Slot.{isSet}
 use Rattle.plan.specs.declared.Store.{Store}
@@ -29,12 +29,6 @@ isUnseen root counter store =
 unfoldable pub allUnseen : Bool → Bool → List Store → Bool
 allUnseen root counter [] = true
 allUnseen root counter (store ∷ more) = pick (isUnseen root counter store) (allUnseen root counter more) false
-
--- the words of the same first bytes
-same-word : (n : ℕ) (b c : List ℕ) → field 0 n c ≡ field 0 n b → (i : ℕ) → i + 4 ≤ n → wordAt c i ≡ wordAt b i
-same-word n b c same i h =
-    let place : i ≡ 0 + i = omega arith in
-    ap (wordAt c) place ∙ sym (field-word 0 n c i h) ∙ ap (λ (l : List ℕ). wordAt l i) same ∙ field-word 0 n b i h ∙ ap (wordAt b) (sym place)
 
 -- a key word, and the value word
 key-unseen : (b : List ℕ) (at w : ℕ) → 16 ≤ at → isSet (wordAt b 0) ≡ false → readCounter (putWord b at w) ≡ readCounter b

@@ -11,7 +11,8 @@ use lib.Seq.{getD-set-same, getD-set-other}
 use Rattle.words.specs.Choice.{pick}
 use Rattle.image.specs.Header.{count, slotAt}
 use Rattle.image.specs.Slot.{slotOf}
-use Rattle.image.proofs.Laid.{SameHeader, same-header, Laid, same-laid}
+use Rattle.image.proofs.Laid.{SameHeader, same-header, same-laid}
+use Rattle.image.specs.Laid.{Laid}
 use Rattle.jobs.specs.Jobs.{commandOf}
 use Rattle.jobs.specs.declared.Kind.{Kind}
 use Rattle.jobs.specs.declared.Kind.the-variants.{RootKeyAndCounter, RootKey, SessionKey, Increment, Request, TemporaryKeyAndCounter, TemporaryKey}

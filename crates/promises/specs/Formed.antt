@@ -4,7 +4,7 @@ use Prim.Native.Nat.{ℕ}
 use mathlib.Core.Path.{_≡_}
 use mathlib.Core.List.{List}
 use lib.ListN.{length, getD}
-use Rattle.image.proofs.Laid.{Laid}
+use Rattle.image.specs.Laid.{Laid}
 use Rattle.state.specs.declared.Key.{Key}
 use Rattle.state.specs.Parts.{noKey}
 

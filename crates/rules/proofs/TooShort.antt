@@ -23,6 +23,6 @@ short-by o frame h false e =
     rw (e, ne-eqb (length frame) (layoutOf (typeOf frame) .size) (λ same. omega (arith, long, same)))
 
 -- so a frame that belongs to no counter fails, and changes no counter and no key
-pub short-refused : (o : Outcome) (frame : List ℕ) → length frame ≤ 2 → whole o frame ≡ failedWith 0x04 o
+pub two-bytes-fail : (o : Outcome) (frame : List ℕ) → length frame ≤ 2 → whole o frame ≡ failedWith 0x04 o
 unfolding whole pick
-short-refused o frame h = rw (short-by o frame h _ refl)
+two-bytes-fail o frame h = rw (short-by o frame h _ refl)

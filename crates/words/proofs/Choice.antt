@@ -30,3 +30,15 @@ or-zero-by a b false e z = absurd (never (sym e ∙ eq-eqb a 0 z))
 
 pub or-zero : (a b : ℕ) → orElse a b ≡ 0 → (a ≡ 0) × (b ≡ 0)
 or-zero a b z = or-zero-by a b _ refl z
+
+-- the second, where the test fails
+pub otherwise : {A : Type 0} (t : Bool) (x y : A) → t ≡ false → pick t x y ≡ y
+unfolding pick
+otherwise true x y e = absurd (never (sym e))
+otherwise false x y e = refl
+
+-- what holds only where it holds already does not hold anew
+pub same-not-new : (x : Bool) → pick x false x ≡ false
+unfolding pick
+same-not-new true = refl
+same-not-new false = refl

@@ -8,7 +8,7 @@ use lib.ListN.{length, getD, take, drop, length-drop, length-append}
 use lib.Seq.{take-length, take-all, take-at, drop-at, getD-drop}
 use Rattle.words.specs.Table.{field}
 use Rattle.words.specs.Words.{wordAt}
-use Rattle.words.proofs.Table.{table-same, table-take, getD-table}
+use Rattle.words.proofs.Table.{length-table, table-same, table-take, getD-table}
 
 pub field-part : (at n : ℕ) (s : List ℕ) → at + n ≤ length s → take n (drop at s) ≡ field at n s
 field-part at n s h =
@@ -47,3 +47,13 @@ field-behind at n x y ex ey =
     let whole : length (x ++ y) ≡ at + n = omega (arith, length-append x y) in
     sym (field-part at n (x ++ y) (omega (arith, whole)))
     ∙ ap (take n) (drop-at x y at ex) ∙ rw (← ey) (take-length y)
+
+-- a field is as long as is asked
+pub field-within : (at n m : ℕ) (s : List ℕ) → n ≤ m → length (field at n s) ≤ m
+field-within at n m s h = rw (length-table (λ i. getD s (at + i) 0) n) h
+
+-- the words of the same first bytes
+pub same-word : (n : ℕ) (b c : List ℕ) → field 0 n c ≡ field 0 n b → (i : ℕ) → i + 4 ≤ n → wordAt c i ≡ wordAt b i
+same-word n b c same i h =
+    let place : i ≡ 0 + i = omega arith in
+    ap (wordAt c) place ∙ sym (field-word 0 n c i h) ∙ ap (λ (l : List ℕ). wordAt l i) same ∙ field-word 0 n b i h ∙ ap (wordAt b) (sym place)

@@ -7,7 +7,7 @@ use borrow.Author.Tests.{lt-ltb, le-ltb}
 use Rattle.words.specs.Choice.{pick}
 use Rattle.jobs.specs.Jobs.{commandOf, hashSteps}
 use Rattle.state.specs.Refusal.{isRunning}
-use Rattle.jobs.proofs.Longest.{longest-is, at-most}
+use Rattle.jobs.proofs.Longest.{at-most, longest-job}
 use Rattle.state.proofs.Running.{step-left}
 use Rattle.steps.specs.Step.{isHash, stepState, stepImage}
 use Rattle.steps.proofs.step.Statement.{statement}
@@ -35,7 +35,7 @@ store-step-requires c κs =
     let hash-steps = c .before .before .before .hash-steps in
     let runs : isRunning (a .s) ≡ true = sym (is-running .ensures) ∙ if1 .taken in
     let s = a .s in (
-      omega (arith, step-left s runs, at-most (s .job .kind), longest-is),
+      omega (arith, step-left s runs, at-most (s .job .kind), longest-job),
       rw (← command-of .ensures, ← hash-steps .ensures) (c .before .if2 .left),
     )
 

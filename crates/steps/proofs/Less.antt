@@ -1,4 +1,4 @@
--- It ends: each step leaves less of a job. Assumes nothing.
+-- Each step leaves less of a job: of the steps of its kind one more is done, or the job has ended. Assumes nothing.
 use Prim.Native.Nat.{ℕ, _+_, _-_, _<_}
 use mathlib.Core.Path.{_≡_, refl}
 use mathlib.Core.Bool.{true}
