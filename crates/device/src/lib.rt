@@ -107,7 +107,8 @@ pub fn power_up(image: &[u8]) -> Answer
 
 // One frame, with the buffer that a read fills. Refusals 1 to 4.
 pub fn frame(image: &[u8], s: State, frame: &[u8], output: &mut [u8]) -> Answer
-    ensures { λ r. ⌜ (r ≡ afterFrame (now (image .entry)) s (now (frame .entry))) × (now (output .exit) ≡ outputAfterFrame (now (image .entry)) s (now (frame .entry)) (now (output .entry))) ⌝ }
+    ensures { λ r. ⌜ r ≡ afterFrame (now (image .entry)) s (now (frame .entry)) ⌝ }
+    ensures { λ _. ⌜ now (output .exit) ≡ outputAfterFrame (now (image .entry)) s (now (frame .entry)) (now (output .entry)) ⌝ }
 {
     let number = state::refusal(image, s);
     if number != 0 {
@@ -130,7 +131,8 @@ fn goes_on(steps: u32, quota: u32, s: State) -> bool
 
 // The steps of an accepted work call.
 fn work_steps(image: &mut [u8], s: State, quota: u32) -> Answer
-    ensures { λ r. ⌜ (r ≡ afterSteps (device (now (image .entry)) s) (stepsDone quota (device (now (image .entry)) s))) × (now (image .exit) ≡ run (stepsDone quota (device (now (image .entry)) s)) (device (now (image .entry)) s) .image) ⌝ }
+    ensures { λ r. ⌜ r ≡ afterSteps (device (now (image .entry)) s) (stepsDone quota (device (now (image .entry)) s)) ⌝ }
+    ensures { λ _. ⌜ now (image .exit) ≡ run (stepsDone quota (device (now (image .entry)) s)) (device (now (image .entry)) s) .image ⌝ }
 {
     let mut t = s;
     let mut steps = 0;
@@ -148,7 +150,8 @@ fn work_steps(image: &mut [u8], s: State, quota: u32) -> Answer
 
 // Work: at most the quota's steps of the job, and how many were done. Refusals 1 to 4.
 pub fn work(image: &mut [u8], s: State, quota: u32) -> Answer
-    ensures { λ r. ⌜ (r ≡ afterWork (device (now (image .entry)) s) quota) × (now (image .exit) ≡ imageAfterWork (device (now (image .entry)) s) quota) ⌝ }
+    ensures { λ r. ⌜ r ≡ afterWork (device (now (image .entry)) s) quota ⌝ }
+    ensures { λ _. ⌜ now (image .exit) ≡ imageAfterWork (device (now (image .entry)) s) quota ⌝ }
 {
     let refused = state::refusal(image, s);
     if refused != 0 {
