@@ -15,7 +15,7 @@ use Rattle.compare.proofs.Agree.{same-self, same-equal}
 use Rattle.hmac.specs.Hmac.{HMAC}
 use Rattle.host.specs.declared.Verdict.{Verdict}
 use Rattle.host.specs.declared.Verdict.the-variants.{Refused, Busy, Failed, WrongTag, WrongSignature, Good}
-use Rattle.host.specs.Reading.{statusIn, replySigned, readings, readReply, judged, GoodReply, statusOf}
+use Rattle.host.specs.Reading.{statusIn, sameTag, replySigned, readings, readReply, judged, GoodReply, statusOf}
 
 -- the verdict that stands in no row
 abbrev isGood : Verdict → Bool
@@ -28,7 +28,7 @@ isGood Good = true
 
 -- a reply that is read as good is good
 pub good-only : (key tag reply : List ℕ) → readReply key tag reply ≡ Good → GoodReply key tag reply
-unfolding readReply replySigned pick
+unfolding readReply sameTag replySigned pick
 good-only key tag reply e =
     let row = none-holds isGood (readings key tag reply) Good refl (ap isGood e) in
     record {
@@ -42,7 +42,7 @@ good-only key tag reply e =
 
 -- and a good reply is read as good
 pub good-read : (key tag reply : List ℕ) → GoodReply key tag reply → readReply key tag reply ≡ Good
-unfolding readReply replySigned firstOf anyOf pick
+unfolding readReply sameTag replySigned firstOf anyOf pick
 good-read key tag reply g =
     rw (
       g .key-length,

@@ -16,7 +16,11 @@ use Rattle.host.specs.declared.Verdict.the-variants.{Refused, Busy, Fail
 abbrev pub statusIn : List ℕ → ℕ
 statusIn reply = getD reply 0 0
 
--- the signature is the HMAC, under the session key, of tag then counter value
+-- the tag in it is the one sent
+unfoldable pub sameTag : List ℕ → List ℕ → Bool
+sameTag tag reply = sameBytes (field 1 12 reply) tag
+
+-- its signature is the HMAC, under the session key, of tag then counter value
 unfoldable pub replySigned : List ℕ → List ℕ → Bool
 replySigned key reply = sameBytes (field 17 32 reply) (HMAC key (field 1 16 reply))
 
@@ -28,7 +32,7 @@ readings key tag reply =
     ∷ (not (eqb (length reply) 49) gives Refused 8)
     ∷ (eqb (statusIn reply % 2) 1 gives Busy)
     ∷ (not (eqb (statusIn reply) 0x80) gives Failed (statusIn reply))
-    ∷ (not (sameBytes (field 1 12 reply) tag) gives WrongTag)
+    ∷ (not (sameTag tag reply) gives WrongTag)
     ∷ (not (replySigned key reply) gives WrongSignature)
     ∷ []
 

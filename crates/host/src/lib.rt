@@ -8,8 +8,9 @@ ghost use lib.ListN.{length};
 ghost use Rattle.hmac.specs.Hmac.{HMAC};
 ghost use Rattle.frames.specs.Layout.{layoutOf};
 ghost use Rattle.host.specs.Frames.{head, signedBy, rootKeyFrame};
-ghost use Rattle.host.specs.Reading.{replySigned, judged, readReply, partOf};
-ghost use Rattle.host.specs.Building.{buildRefusal, withFront, dataSizeOf, builtSigned, Answers, builtRootKey, builtSessionKey, builtIncrement, builtRequest, derivedKey};
+ghost use Rattle.host.specs.Reading.{sameTag, replySigned, judged, readReply, partOf};
+ghost use Rattle.host.specs.Building.{buildRefusal, withFront, dataSizeOf, builtSigned};
+ghost use Rattle.host.specs.Building.{Answers, builtRootKey, builtSessionKey, builtIncrement, builtRequest, derivedKey};
 
 // Refusals 5, 6 and 7, in this order.
 fn build_refusal(
@@ -154,6 +155,14 @@ pub enum Verdict {
     Good,
 }
 
+// Whether the tag in a reply is the one sent.
+fn same_tag(tag: &[u8], reply: &[u8]) -> bool
+    requires { ⌜ length (now reply) ≡ 49 ⌝ }
+    ensures { λ r. ⌜ r ≡ sameTag (now (tag .entry)) (now (reply .entry)) ⌝ }
+{
+    compare::same(&reply[1..13], tag)
+}
+
 // Whether the signature of a reply is that of its tag and counter bytes.
 fn reply_signed(key: &[u8], reply: &[u8]) -> bool
     requires { ⌜ (length (now key) ≡ 32) × (length (now reply) ≡ 49) ⌝ }
@@ -175,7 +184,7 @@ fn judged(key: &[u8], tag: &[u8], reply: &[u8]) -> Verdict
     if status != 0x80 {
         return Verdict::Failed(status);
     }
-    if !compare::same(&reply[1..13], tag) {
+    if !same_tag(tag, reply) {
         return Verdict::WrongTag;
     }
     if !reply_signed(key, reply) {

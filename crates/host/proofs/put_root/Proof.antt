@@ -22,12 +22,15 @@ returns c =
     c .before .before .before .before .before .before .before .before .before .before .before .before .place in
     let second = c .before .before .before .before .before .before .before .before .place2 in
     let third = c .before .before .place3 in
-    let size = start .pre .0 in
+    let tail = take 28 (drop 4 (signed .result)) in
+    let sent = length-take-le 28 (drop 4 (signed .result)) (rw (length-drop 4 (signed .result)) (omega arith)) in
     rw (
       ← signed .ensures,
       ← field-part 4 28 (signed .result) (omega arith),
     )
-    (front-three (a .out .now) (head 0 (a .counter)) (a .key .now) (take 28 (drop 4 (signed .result))) (first .last .1 .1 .0) (second .last .1 .1 .0) (third .last .1 .1 .0) 4 36 refl (omega (arith, size)) (omega (arith, start .pre .1, length-take-le 28 (drop 4 (signed .result)) (rw (length-drop 4 (signed .result)) (omega arith)))) (first .ensures) (second .ensures) (third .ensures))
+    (front-three (a .out .now) (head 0 (a .counter)) (a .key .now) tail
+    (first .last .1 .1 .0) (second .last .1 .1 .0) (third .last .1 .1 .0) 4 36 refl
+    (omega (arith, start .pre .0)) (omega (arith, start .pre .1, sent)) (first .ensures) (second .ensures) (third .ensures))
 
 pub put-root-spec : {M : Type 1} → statement M
 put-root-spec =
