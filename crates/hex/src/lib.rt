@@ -5,6 +5,7 @@ ghost use mathlib.Core.Bool.{true};
 ghost use mathlib.Core.List.{_++_};
 ghost use lib.ListN.{length, drop};
 ghost use Rattle.words.specs.Table.{table};
+ghost use Rattle.words.specs.Words.{withFront};
 ghost use Rattle.hex.specs.Hex.{digitOf, digitsOfAll, withDigits, valueOf, allDigits, byteAt, readable};
 
 // The character of a digit.
@@ -98,7 +99,8 @@ fn fill_bytes(text: &[u8], out: &mut [u8])
 // Reads the digits of a text as bytes to the front of a buffer, and leaves the rest; returns how many bytes there are. A text
 // that is not all digits, or of an odd number of them, or too long for the buffer, has none.
 pub fn read(text: &[u8], out: &mut [u8]) -> usize
-    ensures { λ r. ⌜ (r ≡ length (readable (length (now (out .entry))) (now (text .entry)))) × (now (out .exit) ≡ readable (length (now (out .entry))) (now (text .entry)) ++ drop (length (readable (length (now (out .entry))) (now (text .entry)))) (now (out .entry))) ⌝ }
+    ensures { λ r. ⌜ r ≡ length (readable (length (now (out .entry))) (now (text .entry))) ⌝ }
+    ensures { λ _. ⌜ now (out .exit) ≡ withFront (readable (length (now (out .entry))) (now (text .entry))) (now (out .entry)) ⌝ }
 {
     let bytes = text.len() / 2;
     if out.len() < bytes {

@@ -4,11 +4,10 @@ use mathlib.Core.Path.{_≡_, ap, _∙_}
 use mathlib.Core.List.{List, _++_}
 use native.Mathlib.Omega.{arith}
 use lib.ListN.{length, take, length-append}
-use Rattle.words.specs.Words.{withBytes}
+use Rattle.words.specs.Words.{withBytes, withFront}
 use Rattle.words.proofs.Runs.{place-append, place-front, take-front}
 use Rattle.hmac.specs.Hmac.{HMAC}
 use Rattle.host.specs.Frames.{signedBy}
-use Rattle.host.specs.Building.{withFront}
 
 -- two runs at the front
 two-runs :

@@ -5,8 +5,9 @@ use mathlib.Core.Path.{_≡_}
 use mathlib.Core.Bool.{not}
 use mathlib.Core.List.{List, [], _∷_, _++_}
 use lib.Dec.{ltb, eqb}
-use lib.ListN.{length, drop}
+use lib.ListN.{length}
 use Rattle.words.specs.Choice.{pick}
+use Rattle.words.specs.Words.{withFront}
 use Rattle.words.specs.Rows.{Row, _gives_, firstFailing, anyOf}
 use Rattle.frames.specs.Layout.{layoutOf}
 use Rattle.host.specs.Frames.{head, signedBy, newSessionKey, rootKeyFrame, sessionKeyFrame, incrementFrame, requestFrame}
@@ -22,10 +23,6 @@ buildRefusals counter keySize dataSize dataNeeded room needed =
 unfoldable pub buildRefusal : ℕ → ℕ → ℕ → ℕ → ℕ → ℕ → ℕ
 buildRefusal counter keySize dataSize dataNeeded room needed =
     firstFailing (buildRefusals counter keySize dataSize dataNeeded room needed)
-
--- the output with a frame at its front
-unfoldable pub withFront : List ℕ → List ℕ → List ℕ
-withFront frame output = frame ++ drop (length frame) output
 
 -- the whole answer of a build: its number, 0 if it is done, and the output afterwards
 pub record Built : Type 0 where

@@ -5,11 +5,12 @@ ghost use mathlib.Core.Path.{_≡_};
 ghost use Prim.Native.Nat.{_+_, _≤_};
 ghost use mathlib.Core.List.{_++_};
 ghost use lib.ListN.{length};
+ghost use Rattle.words.specs.Words.{withFront};
 ghost use Rattle.hmac.specs.Hmac.{HMAC};
 ghost use Rattle.frames.specs.Layout.{layoutOf};
 ghost use Rattle.host.specs.Frames.{head, signedBy, rootKeyFrame};
 ghost use Rattle.host.specs.Reading.{sameTag, replySigned, judged, readReply, partOf};
-ghost use Rattle.host.specs.Building.{buildRefusal, withFront, dataSizeOf, builtSigned};
+ghost use Rattle.host.specs.Building.{buildRefusal, dataSizeOf, builtSigned};
 ghost use Rattle.host.specs.Building.{Answers, builtRootKey, builtSessionKey, builtIncrement, builtRequest, derivedKey};
 
 // Refusals 5, 6 and 7, in this order.

@@ -1,9 +1,9 @@
 -- Words: all words are 4 bytes, high byte first; and bytes stored in a row. Assumes nothing.
 use Prim.Native.Nat.{ℕ, _+_, _*_, _/_, _%_}
 use mathlib.Core.Bool.{Bool}
-use mathlib.Core.List.{List, [], _∷_}
+use mathlib.Core.List.{List, [], _∷_, _++_}
 use lib.Dec.{leb}
-use lib.ListN.{length, getD, set}
+use lib.ListN.{length, getD, set, drop}
 use lib.Seq.{sets}
 use Rattle.words.specs.Choice.{pick}
 use Rattle.words.specs.Table.{table, spread}
@@ -47,3 +47,7 @@ withWord s at w = pick (inside s at) (putWord s at w) s
 -- storing: the list with bytes from a place on, or as it was where they are not all inside
 abbrev pub withBytes : List ℕ → ℕ → List ℕ → List ℕ
 withBytes s at bytes = pick (leb (at + length bytes) (length s)) (sets s at bytes) s
+
+-- storing: the list with bytes at its front, and the rest as it was
+unfoldable pub withFront : List ℕ → List ℕ → List ℕ
+withFront bytes s = bytes ++ drop (length bytes) s

@@ -3,6 +3,7 @@ use borrow.Author.Needs.{needs}
 use Prim.Native.Nat.{_/_}
 use mathlib.Core.Path.{sym, _∙_}
 use lib.ListN.{length}
+use Rattle.words.specs.Words.{withFront}
 use Rattle.words.proofs.Table.{length-table}
 use Rattle.hex.specs.Hex.{byteAt}
 use Rattle.hex.proofs.Readable.{too-many, odd, other, digits}
@@ -10,12 +11,14 @@ use Rattle.hex.proofs.read.Statement.{statement}
 use Rattle.hex.proofs.read.Tie as tie
 
 returns : tie.Need-returns
+unfolding withFront
 returns c =
     let a = c .before .before .before .args in
     let none = too-many (length (a .out .now)) (a .text .now) (c .if1 .taken) in
     (rw none, rw none)
 
 returns-2 : tie.Need-returns-2
+unfolding withFront
 returns-2 c =
     let a = c .before .before .before .before .args in
     let none = odd (length (a .out .now)) (a .text .now) (c .before .if1 .left) (c .if2 .taken) in
@@ -25,6 +28,7 @@ fill-bytes-requires : tie.Need-fill-bytes-requires
 fill-bytes-requires c κs = (sym (c .before .before .all-digits .ensures) ∙ c .before .if3 .taken, c .before .before .before .before .if1 .left)
 
 returns-3 : tie.Need-returns-3
+unfolding withFront
 returns-3 c =
     let passed = c .before .before .before .before .before .before in
     let a = passed .before .before .before .before .args in
@@ -34,6 +38,7 @@ returns-3 c =
     (rw (bytes, size), rw (bytes, size) (c .before .before .fill-bytes .ensures))
 
 returns-4 : tie.Need-returns-4
+unfolding withFront
 returns-4 c =
     let a = c .before .before .before .before .before .before .args in
     let none = other (length (a .out .now)) (a .text .now) (c .before .before .before .if1 .left) (c .before .before .if2 .left) (sym (c .before .all-digits .ensures) ∙ c .if3 .left) in
