@@ -1,2 +1,3 @@
--- That each public function has one answer only.
+-- How the tables of checks hang together, and that each public function has one answer only.
+pub mod LastChecks
 pub mod OneAnswer

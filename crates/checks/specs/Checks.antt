@@ -2,7 +2,7 @@
 -- 1 to 7 are made on arrival, 8 to 10 when the signature is known. Assumes nothing.
 use Prim.Native.Nat.{ℕ}
 use mathlib.Core.Bool.{Bool, true, false, not}
-use mathlib.Core.List.{List, [], _∷_}
+use mathlib.Core.List.{List, [], _∷_, _++_}
 use lib.Dec.{ltb, eqb}
 use lib.ListN.{length}
 use Rattle.words.specs.Choice.{pick}
@@ -33,14 +33,20 @@ arrivalChecks type size reserved counter count slot hasKey =
     ∷ (notReady type slot hasKey gives 0x08)
     ∷ []
 
--- 8. signature, first of type 00, then of the others. 9. type 02, data is not the counter value. 10. type 02, value FFFFFFFFh
-abbrev pub lastChecks : ℕ → Bool → ℕ → ℕ → List (Row ℕ)
-lastChecks type holds sent value =
-    (pick holds false (eqb type 0) gives 0x02)
-    ∷ (not holds gives 0x04)
-    ∷ (pick (eqb type 2) (not (eqb sent value)) false gives 0x10)
+-- 8. signature, first of type 00, then of the others: `holds` says that it is right
+abbrev pub signatureChecks : ℕ → Bool → List (Row ℕ)
+signatureChecks type holds = (pick holds false (eqb type 0) gives 0x02) ∷ (not holds gives 0x04) ∷ []
+
+-- 9. type 02, data is not the counter value. 10. type 02, value FFFFFFFFh
+abbrev pub valueChecks : ℕ → ℕ → ℕ → List (Row ℕ)
+valueChecks type sent value =
+    (pick (eqb type 2) (not (eqb sent value)) false gives 0x10)
     ∷ (pick (eqb type 2) (eqb value 0xFFFFFFFF) false gives 0x20)
     ∷ []
+
+-- 8 to 10
+abbrev pub lastChecks : ℕ → Bool → ℕ → ℕ → List (Row ℕ)
+lastChecks type holds sent value = signatureChecks type holds ++ valueChecks type sent value
 
 -- checks 1 to 7 of a frame, with the image's count, the counter's slot, and whether the counter has a session key
 abbrev pub checksOf : List ℕ → ℕ → Slot → Bool → List (Row ℕ)

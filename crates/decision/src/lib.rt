@@ -3,18 +3,16 @@
 // The digest is secret until it is compared, and compared at every word, whatever is found: which words differ picks no branch
 // and no index. A status of 0 says that no check failed.
 ghost use mathlib.Core.Path.{_≡_};
-ghost use mathlib.Core.Bool.{true};
-ghost use lib.Dec.{eqb};
+ghost use mathlib.Core.Bool.{false};
 ghost use Prim.Native.Nat.{_+_, _≤_};
 ghost use Rattle.words.specs.Words.{wordsOf};
 ghost use Rattle.words.specs.Table.{field};
-ghost use Rattle.words.specs.Choice.{pick};
 ghost use Rattle.words.specs.Rows.{firstFailing};
 ghost use Rattle.compare.specs.Compare.{differences};
 ghost use Rattle.jobs.specs.Jobs.{commandType};
 ghost use Rattle.decision.specs.Place.{signatureAt};
 ghost use Rattle.decision.specs.Signature.{signatureHolds};
-ghost use Rattle.checks.specs.Checks.{lastChecks};
+ghost use Rattle.checks.specs.Checks.{signatureChecks, valueChecks};
 ghost use Rattle.decision.specs.Decision.{decision};
 use jobs::Command;
 
@@ -59,9 +57,9 @@ fn signature_holds(command: Command, frame: [u8; 64], digest: [u8; 32]) -> bool
     }
 }
 
-// The status of a wrong signature.
+// Check 8, where the signature is wrong.
 fn wrong_signature(command: Command) -> u8
-    ensures { λ r. ⌜ r ≡ pick (eqb (commandType command) 0) 0x02 0x04 ⌝ }
+    ensures { λ r. ⌜ r ≡ firstFailing (signatureChecks (commandType command) false) ⌝ }
 {
     match command {
         Command::WriteRootKey => 0x02,
@@ -71,9 +69,19 @@ fn wrong_signature(command: Command) -> u8
     }
 }
 
+// Check 8: `holds` says that the signature is right.
+fn signature_status(command: Command, holds: bool) -> u8
+    ensures { λ r. ⌜ r ≡ firstFailing (signatureChecks (commandType command) holds) ⌝ }
+{
+    if holds {
+        return 0;
+    }
+    wrong_signature(command)
+}
+
 // Checks 9 and 10 of an increment, of the frame's data and the counter value.
 fn increment_status(sent: u32, value: u32) -> u8
-    ensures { λ r. ⌜ r ≡ firstFailing (lastChecks 2 true sent value) ⌝ }
+    ensures { λ r. ⌜ r ≡ firstFailing (valueChecks 2 sent value) ⌝ }
 {
     if sent != value {
         return 0x10;
@@ -84,13 +92,10 @@ fn increment_status(sent: u32, value: u32) -> u8
     0
 }
 
-// Checks 8 to 10: `holds` says that the signature is right. It decides before the counter data does.
-fn status_of(command: Command, holds: bool, sent: u32, value: u32) -> u8
-    ensures { λ r. ⌜ r ≡ firstFailing (lastChecks (commandType command) holds sent value) ⌝ }
+// Checks 9 and 10: an increment alone has them.
+fn value_status(command: Command, sent: u32, value: u32) -> u8
+    ensures { λ r. ⌜ r ≡ firstFailing (valueChecks (commandType command) sent value) ⌝ }
 {
-    if !holds {
-        return wrong_signature(command);
-    }
     match command {
         Command::WriteRootKey => 0,
         Command::UpdateSessionKey => 0,
@@ -99,10 +104,14 @@ fn status_of(command: Command, holds: bool, sent: u32, value: u32) -> u8
     }
 }
 
-// Checks 8 to 10: the status of the first that fails, 0 if none does.
+// Checks 8 to 10: the status of the first that fails, 0 if none does. The signature decides before the counter data does.
 pub fn decision(command: Command, frame: [u8; 64], digest: [u8; 32], value: u32) -> u8
     ensures { λ r. ⌜ r ≡ decision command frame digest value ⌝ }
 {
-    let holds = signature_holds(command, frame, digest);
-    status_of(command, holds, words::get(&frame, 4), value)
+    let signature = signature_status(command, signature_holds(command, frame, digest));
+    let data = value_status(command, words::get(&frame, 4), value);
+    if signature != 0 {
+        return signature;
+    }
+    data
 }

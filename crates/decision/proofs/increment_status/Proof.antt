@@ -1,4 +1,4 @@
--- `increment_status` meets its contract. Assumes nothing.
+-- `increment_status` meets its contract: the rows, by the tests that led there. Assumes nothing.
 use Rattle.words.specs.Rows.{firstOf}
 use Rattle.words.specs.Choice.{pick}
 use borrow.Author.Tests.{ne-eqb, eq-eqb}

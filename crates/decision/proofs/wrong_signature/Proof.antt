@@ -1,23 +1,24 @@
--- `wrong_signature` meets its contract. Assumes nothing.
+-- `wrong_signature` meets its contract: the rows, by the tests that led there. Assumes nothing.
+use Rattle.words.specs.Rows.{firstOf}
 use Rattle.words.specs.Choice.{pick}
 use borrow.Author.Needs.{needs}
 use Rattle.decision.proofs.wrong_signature.Statement.{statement}
 use Rattle.decision.proofs.wrong_signature.Tie as tie
 
 returns : tie.Need-returns
-unfolding pick
+unfolding firstOf pick
 returns c = simp (c .enum-told .given .1)
 
 returns-2 : tie.Need-returns-2
-unfolding pick
+unfolding firstOf pick
 returns-2 c = simp (c .enum-told2 .given .1)
 
 returns-3 : tie.Need-returns-3
-unfolding pick
+unfolding firstOf pick
 returns-3 c = simp (c .enum-told3 .given .1)
 
 returns-4 : tie.Need-returns-4
-unfolding pick
+unfolding firstOf pick
 returns-4 c = simp (c .enum-told4 .given .1)
 
 pub wrong-signature-spec : {M : Type 1} → statement M
