@@ -21,6 +21,10 @@ refusals size counters first each whole =
     ∷ (anyOf (ltb first 16 ∷ not (eqb (first % 4) 0) ∷ not (isSize each) ∷ ltb whole (first + each * counters) ∷ []) gives 3)
     ∷ []
 
--- the refusal of an image, 0 if it is accepted
+-- the same of an image
+abbrev pub refusalsOf : List ℕ → List (Row ℕ)
+refusalsOf image = refusals (length image) (count image) (offset image) (slotSize image) (total image)
+
+-- its refusal, 0 if it is accepted
 unfoldable pub refusal : List ℕ → ℕ
-refusal image = firstFailing (refusals (length image) (count image) (offset image) (slotSize image) (total image))
+refusal image = firstFailing (refusalsOf image)

@@ -7,6 +7,7 @@ use mathlib.Core.Bool.{Bool, true, false}
 use mathlib.Core.List.{List, [], _∷_}
 use borrow.Author.Tests.{lt-ltb}
 use Rattle.words.specs.Choice.{pick}
+use Rattle.words.specs.Rows.{firstOf, anyOf}
 use Rattle.words.proofs.Choice.{never, either}
 use Rattle.image.specs.Header.{count}
 use Rattle.image.specs.Refusal.{refusal}
@@ -16,6 +17,7 @@ use Rattle.frames.specs.Classes.{classOf}
 use Rattle.frames.specs.Layout.{counterOf}
 use Rattle.state.specs.Parts.{powerOn}
 use Rattle.state.specs.Refusal.{jobRefusal, deviceRefusal}
+use Rattle.state.proofs.Refused.{device-refusal}
 use Rattle.state.proofs.Running.{no-job-idle}
 use Rattle.arrival.specs.Arrival.{arrived}
 use Rattle.device.specs.Frame.{withEnabled, stateAfter, outputAfter}
@@ -37,11 +39,11 @@ module _ (a : Account) (sound : Sound a) where
   d = a .device
 
   job-fits : Resting a → jobRefusal (count (d .image)) (d .state) ≡ 0
-  unfolding jobRefusal pick
+  unfolding jobRefusal firstOf anyOf pick
   job-fits r = rw (r .none)
 
   job-fits-working : Working a → jobRefusal (count (d .image)) (d .state) ≡ 0
-  unfolding jobRefusal pick
+  unfolding jobRefusal firstOf anyOf pick
   job-fits-working w =
       rw (
         runs _ _ _ _ _ (d .image) (d .state) (w .at) (w .left),
@@ -51,8 +53,8 @@ module _ (a : Account) (sound : Sound a) where
       )
 
   pub not-refused : deviceRefusal (d .image) (d .state) ≡ 0
-  unfolding deviceRefusal pick
-  not-refused = rw (accepted-now a sound) (⊎-elim job-fits job-fits-working (sound .state))
+  unfolding pick
+  not-refused = rw (device-refusal (d .image) (d .state), accepted-now a sound) (⊎-elim job-fits job-fits-working (sound .state))
 
   pub frame-done :
       (bytes output : List ℕ) →

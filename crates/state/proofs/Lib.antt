@@ -1,4 +1,5 @@
--- What the proofs share, and that each public function has one answer only.
+-- What the proofs share, how the refusals hang together, and that each public function has one answer only.
 pub mod Inside
 pub mod Running
 pub mod OneAnswer
+pub mod Refused

@@ -4,17 +4,18 @@ use borrow.Author.Tests.{lt-ltb, le-ltb}
 use lib.ListN.{length}
 use lib.Seq.{take-all}
 use Rattle.words.specs.Choice.{pick}
+use Rattle.words.specs.Rows.{firstOf}
 use Rattle.hash.specs.Answer.{hashAnswer}
 use Rattle.hash.proofs.OneBlock.{sha256-short}
 use Rattle.hash.proofs.hash.Statement.{statement}
 use Rattle.hash.proofs.hash.Tie as tie
 
 returns : tie.Need-returns
-unfolding hashAnswer pick
+unfolding hashAnswer firstOf pick
 returns c = rw (lt-ltb 55 (length (c .before .before .before .args .message .now)) (c .before .if1 .taken)) (c .refused .ensures)
 
 returns-2 : tie.Need-returns-2
-unfolding hashAnswer pick
+unfolding hashAnswer firstOf pick
 returns-2 c =
     let m = c .before .before .before .before .before .before .before .args .message .now in
     let short = c .before .before .before .before .before .if1 .left in

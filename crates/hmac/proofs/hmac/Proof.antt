@@ -5,17 +5,18 @@ use mathlib.Core.Path.{ap, sym}
 use lib.ListN.{length}
 use Rattle.hash.specs.Answer.{done}
 use Rattle.words.specs.Choice.{pick}
+use Rattle.words.specs.Rows.{firstOf}
 use Rattle.hmac.specs.Answer.{hmacAnswer}
 use Rattle.hmac.proofs.FourBlocks.{four-blocks}
 use Rattle.hmac.proofs.hmac.Statement.{statement}
 use Rattle.hmac.proofs.hmac.Tie as tie
 
 returns : tie.Need-returns
-unfolding hmacAnswer pick
+unfolding hmacAnswer firstOf pick
 returns c = rw (ne-eqb (length (c .before .before .before .before .args .key .now)) 32 (c .before .if1 .taken)) (c .refused .ensures)
 
 returns-2 : tie.Need-returns-2
-unfolding hmacAnswer pick
+unfolding hmacAnswer firstOf pick
 returns-2 c =
     let start = c .before .before .before .before .before in
     rw (
@@ -25,7 +26,7 @@ returns-2 c =
     (c .refused2 .ensures)
 
 returns-3 : tie.Need-returns-3
-unfolding hmacAnswer pick
+unfolding hmacAnswer firstOf pick
 returns-3 c =
     let key = c .before .before .before .before .before .before .before .before .before .before .before .before .args .key .now in
     let message = c .before .before .before .before .before .before .before .before .before .before .before .before .args .message .now in

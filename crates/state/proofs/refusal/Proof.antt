@@ -2,19 +2,20 @@
 use borrow.Author.Needs.{needs}
 use borrow.Author.Tests.{eq-eqb, ne-eqb}
 use Rattle.words.specs.Choice.{pick}
-use Rattle.state.specs.Refusal.{deviceRefusal}
+use Rattle.state.proofs.Refused.{device-refusal}
 use Rattle.state.proofs.refusal.Statement.{statement}
 use Rattle.state.proofs.refusal.Tie as tie
 
 returns : tie.Need-returns
-unfolding deviceRefusal pick
-returns c = rw (← c .before .refusal .ensures, ne-eqb (c .before .refusal .result) 0 (c .if1 .taken))
+unfolding pick
+returns c = rw (device-refusal, ← c .before .refusal .ensures, ne-eqb (c .before .refusal .result) 0 (c .if1 .taken))
 
 returns-2 : tie.Need-returns-2
-unfolding deviceRefusal pick
+unfolding pick
 returns-2 c =
     let refusal-call = c .before .before .before .refusal in
     rw (
+      device-refusal,
       ← refusal-call .ensures,
       eq-eqb (refusal-call .result) 0 (c .before .before .if1 .left),
       ← c .before .count .ensures,
