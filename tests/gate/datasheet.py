@@ -22,6 +22,7 @@ SHEET = ROOT / "docs" / "DATASHEET.md"
 # The files of specs/ that state no rule of device, host or rpmcrun, and why.
 TOOLS = {
     "crates/words/specs/Choice.antt": "one of two, by a test: a way to write definitions",
+    "crates/words/specs/Rows.antt": "a table read from its first row down: a way to write definitions",
     "crates/words/specs/Table.antt": "lists by a rule for each place: a way to write definitions",
     "crates/decision/specs/Place.antt": "where the code looks for a signature; what it is stands in Signature",
     "crates/packed/specs/Codes.antt": "a state as bytes, for tests alone",
