@@ -1,7 +1,7 @@
 -- What a table's answer says of its rows. If the answer is none of those that stand in the rows, then no row holds, whichever is
 -- asked for: this is the one inversion of every list of checks, refusals and verdicts. Assumes nothing.
-use Prim.Native.Nat.{ℕ, zero, suc, _<_}
-use mathlib.Core.Path.{_≡_, refl, sym, _∙_}
+use Prim.Native.Nat.{ℕ, zero, suc}
+use mathlib.Core.Path.{_≡_, refl, sym}
 use mathlib.Core.Bool.{Bool, true, false, not}
 use mathlib.Core.List.{List, [], _∷_, _++_}
 use native.Mathlib.Omega.{arith}
@@ -15,12 +15,6 @@ abbrev pub holdsAt : {A : Type 0} → List (Row A) → ℕ → Bool
 holdsAt [] i = false
 holdsAt (row ∷ more) zero = row .holds
 holdsAt (row ∷ more) (suc i) = holdsAt more i
-
--- the answer of row i, or the one behind the last row
-abbrev pub answerAt : {A : Type 0} → List (Row A) → A → ℕ → A
-answerAt [] last i = last
-answerAt (row ∷ more) last zero = row .answer
-answerAt (row ∷ more) last (suc i) = answerAt more last i
 
 -- test i of several
 abbrev pub testAt : List Bool → ℕ → Bool
@@ -79,21 +73,6 @@ no-test [] e i = refl
 no-test (true ∷ more) e i = absurd (never (sym e))
 no-test (false ∷ more) e zero = refl
 no-test (false ∷ more) e (suc i) = no-test more e i
-
--- no row holds: the answer behind the last one
-pub all-pass : {A : Type 0} (rows : List (Row A)) (last : A) → ((i : ℕ) → holdsAt rows i ≡ false) → firstOf rows last ≡ last
-unfolding firstOf pick
-all-pass [] last h = refl
-all-pass (row ∷ more) last h = rw (h 0) (all-pass more last (λ i. h (suc i)))
-
--- a row holds and none before it: its answer
-pub decides :
-    {A : Type 0} (rows : List (Row A)) (last : A) (i : ℕ) → holdsAt rows i ≡ true → ((j : ℕ) → j < i → holdsAt rows j ≡ false) →
-    firstOf rows last ≡ answerAt rows last i
-unfolding firstOf pick
-decides [] last i e h = absurd (never e)
-decides (row ∷ more) last zero e h = rw e
-decides (row ∷ more) last (suc i) e h = rw (h 0 (omega arith)) (decides more last i e (λ j l. h (suc j) (omega arith)))
 
 -- two tables, one behind the other
 append-by :
