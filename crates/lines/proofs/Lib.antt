@@ -1,6 +1,5 @@
--- The laws of what is printed, the cases of a line's turn, that no line above 514 characters is known, and that each public function
+-- The cases of a line's turn, that no line above 514 characters is known, and that each public function
 -- has one answer only.
-pub mod Front
 pub mod Turns
 pub mod Prefix
 pub mod Keeping

@@ -1,12 +1,12 @@
 -- A line above 514 characters is never known: `F ` and the digits of 256 bytes are 514, and a number has at most three digits. So a
 -- program that keeps 515 of its characters answers it as if it had kept all. Assumes nothing.
-use Prim.Native.Nat.{ℕ, zero, suc, _-_, _/_, _≤_, _<_}
+use Prim.Native.Nat.{ℕ, _/_, _<_}
 use mathlib.Core.Path.{_≡_, refl, sym, _∙_}
 use mathlib.Core.Bool.{Bool, true, false}
 use mathlib.Core.List.{List, []}
 use native.Mathlib.Omega.{arith}
-use borrow.Author.Tests.{le-ltb, ne-eqb, eqb-false, ltb-true, ltb-false}
-use lib.Dec.{ltb, eqb}
+use borrow.Author.Tests.{ne-eqb, ltb-true, ltb-false}
+use lib.Dec.{ltb}
 use lib.ListN.{length, take, drop, length-drop}
 use lib.Seq.{length-take-le}
 use Rattle.words.specs.Choice.{pick}
@@ -14,41 +14,9 @@ use Rattle.words.proofs.Choice.{never, either}
 use Rattle.hex.specs.Hex.{readable}
 use Rattle.hex.proofs.Readable.{too-many, odd}
 use Rattle.device.specs.Work.{Device}
-use Rattle.lines.specs.Numbers.{none, withDigit, numberUpTo, numberIn}
-use Rattle.lines.specs.Turn.{Turn, unknown, framed, worked, read, opens, alone, turned}
-
--- a digit more makes a number of two digits at least, or none
-two-digits : (number digit : ℕ) → 10 ≤ withDigit number digit
-unfolding withDigit
-two-digits number digit =
-    either (λ (n : ℕ). 10 ≤ n) (eqb number 0) none _ (λ e. omega arith)
-    (λ some. either (λ (n : ℕ). 10 ≤ n) (ltb number 100) _ none
-    (λ e. either (λ (n : ℕ). 10 ≤ n) (ltb digit 10) _ none (λ e. omega (arith, eqb-false number 0 some)) (λ e. omega arith))
-    (λ e. omega arith))
-
-three-digits : (number digit : ℕ) → 10 ≤ number → 100 ≤ withDigit number digit
-unfolding withDigit
-three-digits number digit h =
-    either (λ (n : ℕ). 100 ≤ n) (eqb number 0) none _ (λ e. omega arith)
-    (λ some. either (λ (n : ℕ). 100 ≤ n) (ltb number 100) _ none
-    (λ e. either (λ (n : ℕ). 100 ≤ n) (ltb digit 10) _ none (λ e. omega arith) (λ e. omega arith))
-    (λ e. omega arith))
-
-no-fourth : (number digit : ℕ) → 100 ≤ number → withDigit number digit ≡ none
-unfolding withDigit pick
-no-fourth number digit h = rw (ne-eqb number 0 (λ e. omega arith), le-ltb number 100 h)
-
--- four digits or more are no number
-four-digits : (n : ℕ) (text : List ℕ) → numberUpTo (suc (suc (suc n))) text ≡ none
-unfolding numberUpTo
-four-digits zero text = no-fourth _ _ (three-digits _ _ (two-digits _ _))
-four-digits (suc n) text = no-fourth _ _ (rw (four-digits n text) (omega arith))
-
-long-number : (text : List ℕ) → 3 < length text → numberIn text ≡ none
-unfolding numberIn
-long-number text h =
-    let e : length text - 1 ≡ suc (suc (suc (length text - 4))) = omega arith in
-    rw e (four-digits (length text - 4) text)
+use Rattle.text.specs.Numbers.{none, numberIn}
+use Rattle.text.proofs.FourDigits.{long-number}
+use Rattle.lines.specs.Turn.{Turn, unknown, framed, worked, read, opens, alone, turn}
 
 -- 513 digits are odd, and more are too many
 long-digits : (text : List ℕ) → 512 < length text → readable 256 text ≡ []
@@ -78,8 +46,8 @@ module _ (d : Device) (line : List ℕ) (long : 514 < length line) where
   unfolding read pick
   read-unknown = rw number-none
 
-  pub too-long : turned d line ≡ unknown d
-  unfolding turned
+  pub too-long : turn d line ≡ unknown d
+  unfolding turn
   too-long =
       either (λ (t : Turn). t ≡ unknown d) (alone 80 line) _ _ (λ e. absurd (never (sym not-alone ∙ e)))
       (λ e. either (λ (t : Turn). t ≡ unknown d) (opens 70 line) _ _ (λ e. frame-unknown)
@@ -87,7 +55,7 @@ module _ (d : Device) (line : List ℕ) (long : 514 < length line) where
       (λ e. either (λ (t : Turn). t ≡ unknown d) (opens 82 line) _ _ (λ e. read-unknown) (λ e. refl))))
 
 -- so its first 515 characters are answered as all of it
-pub cut-alike : (d : Device) (line : List ℕ) → 514 < length line → turned d (take 515 line) ≡ turned d line
+pub cut-alike : (d : Device) (line : List ℕ) → 514 < length line → turn d (take 515 line) ≡ turn d line
 cut-alike d line long =
     let size : length (take 515 line) ≡ 515 = length-take-le 515 line (omega arith) in
     too-long d (take 515 line) (omega arith) ∙ sym (too-long d line long)

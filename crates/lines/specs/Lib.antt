@@ -1,5 +1,3 @@
--- The lines of rpmcrun: what each asks for, and what it is told.
-pub mod Numbers
-pub mod Printing
+-- The lines of rpmcrun: the turn of each, and what the program starts with.
 pub mod Turn
 pub mod Start

@@ -28,9 +28,9 @@ fn answer(image: &mut [u8], s: State, line: &[u8], kept: usize, out: &mut [u8; 5
     requires { ⌜ kept ≤ length (now line) ⌝ }
     ensures { λ r. ⌜ r .kept ≡ 0 ⌝ }
 {
-    let told = lines::turned(image, s, &line[..kept], out);
-    let n = told.length;
-    let state = told.state;
+    let turn = lines::turn(image, s, &line[..kept], out);
+    let n = turn.length;
+    let state = turn.state;
     Heard {
         state,
         kept: 0,

@@ -2,13 +2,9 @@
 use borrow.Author.Needs.{needs}
 use Prim.Native.Nat.{ℕ}
 use mathlib.Core.Path.{_≡_, sym, ap, _∙_}
-use mathlib.Core.List.{List}
 use lib.ListN.{length, take}
 use lib.Seq.{length-take-le}
 use Rattle.hex.specs.Hex.{readable}
-use Rattle.device.specs.Calls.{device}
-use Rattle.lines.specs.Printing.{printed}
-use Rattle.lines.specs.Turn.{framed}
 use Rattle.lines.proofs.Prefix.{read-fits, read-is}
 use Rattle.lines.proofs.framed.Statement.{statement}
 use Rattle.lines.proofs.framed.Tie as tie
@@ -30,14 +26,10 @@ returns c =
     let read = c .before .before .before .before .read in
     let made = c .before .before .before .before .before .before in
     let a = made .before .before .before .args in
-    let d = device (a .image .now) (a .s) in
     let size : length (made .room .result) ≡ 256 = ap length (made .room .ensures) in
     let frame : take (read .result) (read .last .1 .0) ≡ readable 256 (a .digits .now) =
-    read-is (a .digits .now) (made .room .result) (read .last .1 .0) (read .result) (read .ensures .0) (read .ensures .1) ∙ ap (λ (n : ℕ). readable n (a .digits .now)) size in (
-      c .sent .ensures .0 ∙ ap (λ (l : List ℕ). length (framed d l .text)) frame,
-      c .sent .ensures .1 ∙ ap (λ (l : List ℕ). framed d l .after .state) frame,
-      c .sent .ensures .2 ∙ ap (λ (l : List ℕ). printed (framed d l .text) (a .out .now)) frame,
-    )
+    read-is (a .digits .now) (made .room .result) (read .last .1 .0) (read .result) (read .ensures .0) (read .ensures .1) ∙ ap (λ (n : ℕ). readable n (a .digits .now)) size in
+    rw frame at (c .sent .ensures)
 
 pub framed-spec : {M : Type 1} → statement M
 framed-spec =

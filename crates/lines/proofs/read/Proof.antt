@@ -15,17 +15,14 @@ returns : tie.Need-returns
 unfolding read pick
 returns c =
     let none = eq-eqb _ 0 (c .before .before .if1 .taken) in
-    (rw none (c .unknown .ensures .0), rw none (c .unknown .ensures .1), rw none (c .unknown .ensures .2))
+    rw none (c .unknown .ensures)
 
 returns-2 : tie.Need-returns-2
 unfolding read pick
 returns-2 c =
     let some = ne-eqb _ 0 (c .before .before .before .if1 .left) in
-    let large = lt-ltb 256 _ (c .before .before .if2 .taken) in (
-      rw (some, large) (c .unknown2 .ensures .0),
-      rw (some, large) (c .unknown2 .ensures .1),
-      rw (some, large) (c .unknown2 .ensures .2),
-    )
+    let large = lt-ltb 256 _ (c .before .before .if2 .taken) in
+    rw (some, large) (c .unknown2 .ensures)
 
 slice-aggregate-shown : tie.Need-slice-aggregate-shown
 slice-aggregate-shown c =
@@ -45,11 +42,8 @@ returns-3 c =
     let some = ne-eqb size 0 (made .before .before .if1 .left) in
     let small = le-ltb 256 size (made .before .if2 .left) in
     let zeros : take size (made .room .result) ≡ replicate size 0 =
-    ap (λ l. take size l) (made .room .ensures) ∙ take-replicate size 256 0 (made .before .if2 .left) in (
-      rw (some, small, ← zeros) (c .before .shown .ensures .0),
-      rw (some, small) (c .before .shown .ensures .1),
-      rw (some, small, ← zeros) (c .before .shown .ensures .2),
-    )
+    ap (λ l. take size l) (made .room .ensures) ∙ take-replicate size 256 0 (made .before .if2 .left) in
+    rw (some, small, ← zeros) (c .before .shown .ensures)
 
 pub read-spec : {M : Type 1} → statement M
 read-spec =

@@ -1,11 +1,9 @@
 -- `worked` meets its contract: a quota above 255 is not known; else the answer is the device's. Assumes nothing.
 use borrow.Author.Needs.{needs}
-use mathlib.Core.Path.{ap, _∙_}
+use mathlib.Core.Path.{ap}
 use borrow.Author.Tests.{lt-ltb, le-ltb}
-use lib.ListN.{length}
 use Rattle.words.specs.Choice.{pick}
 use Rattle.device.specs.declared.Answer.{Answer}
-use Rattle.lines.specs.Printing.{workLine, printed}
 use Rattle.lines.specs.Turn.{worked}
 use Rattle.lines.proofs.worked.Statement.{statement}
 use Rattle.lines.proofs.worked.Tie as tie
@@ -14,19 +12,18 @@ returns : tie.Need-returns
 unfolding worked pick
 returns c =
     let large = lt-ltb 255 (c .before .before .before .before .args .quota) (c .before .before .if1 .taken) in
-    (rw large (c .unknown .ensures .0), rw large (c .unknown .ensures .1), rw large, rw large (c .unknown .ensures .2))
+    (rw large (c .unknown .ensures), rw large)
 
 returns-2 : tie.Need-returns-2
 unfolding worked pick
 returns-2 c =
     let work = c .before .before .before .before .before .work in
-    let passed = c .before .before .before .before .before .before .before in
-    let a = passed .before .before .args in
-    let small = le-ltb 255 (a .quota) (passed .if1 .left) in (
-      rw small (c .work-line .ensures .0 ∙ ap (λ (x : Answer). length (workLine (x .number) (x .steps))) (work .ensures .0)),
-      rw small (ap (λ (x : Answer). x .state) (work .ensures .0)),
+    let small = le-ltb 255 _ (c .before .before .before .before .before .before .before .if1 .left) in (
+      rw small record {
+        prints = rw (work .ensures .0) at (c .work-line .ensures);
+        state = ap (λ (a : Answer). a .state) (work .ensures .0);
+      },
       rw small (work .ensures .1),
-      rw small (c .work-line .ensures .1 ∙ ap (λ (x : Answer). printed (workLine (x .number) (x .steps)) (a .out .now)) (work .ensures .0)),
     )
 
 pub worked-spec : {M : Type 1} → statement M
