@@ -4,24 +4,28 @@ use Prim.Native.Nat.{ℕ}
 use mathlib.Core.Path.{_≡_, sym, ap, _∙_}
 use lib.ListN.{length, take}
 use lib.Seq.{length-take-le}
+use Rattle.words.specs.Words.{withFront}
 use Rattle.hex.specs.Hex.{readable}
 use Rattle.lines.proofs.Prefix.{read-fits, read-is}
 use Rattle.lines.proofs.framed.Statement.{statement}
 use Rattle.lines.proofs.framed.Tie as tie
 
 array-share-prefix-frame : tie.Need-array-share-prefix-frame
+unfolding withFront
 array-share-prefix-frame c =
     let read = c .before .read in
     let made = c .before .before .before in
     read-fits (made .before .before .before .args .digits .now) (made .room .result) (read .last .1 .0) (read .result) (read .ensures .0) (read .ensures .1)
 
 slice-aggregate-sent : tie.Need-slice-aggregate-sent
+unfolding withFront
 slice-aggregate-sent c =
     let read = c .before .before .read in
     let made = c .before .before .before .before in
     sym (length-take-le (read .result) (read .last .1 .0) (read-fits (made .before .before .before .args .digits .now) (made .room .result) (read .last .1 .0) (read .result) (read .ensures .0) (read .ensures .1)))
 
 returns : tie.Need-returns
+unfolding withFront
 returns c =
     let read = c .before .before .before .before .read in
     let made = c .before .before .before .before .before .before in
