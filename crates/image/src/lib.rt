@@ -1,6 +1,7 @@
 // The counter image: its header, refusals 1 to 3, and its slots. Contracts cite specs/, in document 01's words.
 ghost use mathlib.Core.Path.{_≡_};
-ghost use Prim.Native.Nat.{_<_, _^_};
+ghost use Prim.Native.Nat.{_<_, _≤_, _^_};
+ghost use lib.ListN.{drop};
 ghost use Rattle.words.specs.Rows.{firstFailing};
 ghost use Rattle.image.specs.Header.{count, slotAt};
 ghost use Rattle.image.specs.Refusal.{isSize, refusals, refusal};
@@ -20,25 +21,11 @@ fn is_size(size: u32) -> bool
     size == 48
 }
 
-// Refusals 1 to 3, of the image's length and the four words of its header; the sum is exact, in 64 bits.
-fn refusal_of(length: usize, count: u32, offset: u32, size: u32, total: u32) -> u32
-    ensures { λ r. ⌜ r ≡ firstFailing (refusals length count offset size total) ⌝ }
+// Refusal 3, of the four words of the header; the sum is exact, in 64 bits.
+fn layout_refusal(count: u32, offset: u32, size: u32, total: u32) -> u32
+    requires { ⌜ count ≤ 4 ⌝ }
+    ensures { λ r. ⌜ r ≡ firstFailing (drop 2 (refusals total count offset size total)) ⌝ }
 {
-    if length < 16 {
-        return 1;
-    }
-    if 65536 < length {
-        return 1;
-    }
-    if total as usize != length {
-        return 1;
-    }
-    if count == 0 {
-        return 2;
-    }
-    if 4 < count {
-        return 2;
-    }
     if offset < 16 {
         return 3;
     }
@@ -54,6 +41,19 @@ fn refusal_of(length: usize, count: u32, offset: u32, size: u32, total: u32) -> 
     0
 }
 
+// Refusals 2 and 3, of the four words of the header.
+fn header_refusal(count: u32, offset: u32, size: u32, total: u32) -> u32
+    ensures { λ r. ⌜ r ≡ firstFailing (drop 1 (refusals total count offset size total)) ⌝ }
+{
+    if count == 0 {
+        return 2;
+    }
+    if 4 < count {
+        return 2;
+    }
+    layout_refusal(count, offset, size, total)
+}
+
 // The number of counters: word 0 of the header.
 pub fn count(image: &[u8]) -> u32
     ensures { λ r. ⌜ r ≡ count (now (image .entry)) ⌝ }
@@ -61,16 +61,25 @@ pub fn count(image: &[u8]) -> u32
     words::get(image, 0)
 }
 
-// Refusals 1 to 3, in order; 0 if the image is accepted.
+// Refusals 1 to 3, in order; 0 if the image is accepted. What is too short is told before a word is read.
 pub fn refusal(image: &[u8]) -> u32
     ensures { λ r. ⌜ r ≡ refusal (now (image .entry)) ⌝ }
 {
-    refusal_of(
-        image.len(),
+    if image.len() < 16 {
+        return 1;
+    }
+    if 65536 < image.len() {
+        return 1;
+    }
+    let total = words::get(image, 12);
+    if total as usize != image.len() {
+        return 1;
+    }
+    header_refusal(
         count(image),
         words::get(image, 4),
         words::get(image, 8),
-        words::get(image, 12),
+        total,
     )
 }
 
