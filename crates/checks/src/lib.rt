@@ -3,6 +3,7 @@
 // Contracts cite specs/, document 01's list as a table. A status of 0 says that no check failed.
 ghost use mathlib.Core.Path.{_≡_};
 ghost use Prim.Native.Nat.{_≤_};
+ghost use lib.ListN.{drop};
 ghost use Rattle.words.specs.Rows.{firstFailing};
 ghost use Rattle.frames.specs.Layout.{layoutOf};
 ghost use Rattle.checks.specs.Checks.{wrongState, notReady, arrivalChecks, arrivalStatus};
@@ -51,24 +52,10 @@ fn not_ready(frame_type: u8, slot: Slot, has_key: bool) -> bool
     !has_key
 }
 
-// Checks 1 to 7, of the bytes of a frame's head, its length, the image's count, the counter's slot, and whether it has a session key.
-fn status_of(
-    frame_type: u8,
-    size: usize,
-    reserved: u8,
-    counter: u8,
-    count: u32,
-    slot: Slot,
-    has_key: bool,
-) -> u8
-    ensures { λ r. ⌜ r ≡ firstFailing (arrivalChecks «frame_type» size reserved counter count slot «has_key») ⌝ }
+// Checks 3 to 7, of the bytes of a frame's head, the image's count, the counter's slot, and whether it has a session key.
+fn status_of(frame_type: u8, reserved: u8, counter: u8, count: u32, slot: Slot, has_key: bool) -> u8
+    ensures { λ r. ⌜ r ≡ firstFailing (drop 2 (arrivalChecks «frame_type» 0 reserved counter count slot «has_key»)) ⌝ }
 {
-    if 3 < frame_type {
-        return 0x04;
-    }
-    if size != frame_length(frame_type) {
-        return 0x04;
-    }
     if reserved != 0 {
         return 0x04;
     }
@@ -90,13 +77,19 @@ fn status_of(
     0
 }
 
-// Checks 1 to 7: the status of the first that fails, 0 if none does.
+// Checks 1 to 7: the status of the first that fails, 0 if none does. What is too short is told before a byte of it is read.
 pub fn arrival_status(frame: &[u8], count: u32, slot: Slot, has_key: bool) -> u8
     ensures { λ r. ⌜ r ≡ arrivalStatus (now (frame .entry)) count slot «has_key» ⌝ }
 {
+    let frame_type = words::byte(frame, 1);
+    if 3 < frame_type {
+        return 0x04;
+    }
+    if frame.len() != frame_length(frame_type) {
+        return 0x04;
+    }
     status_of(
-        words::byte(frame, 1),
-        frame.len(),
+        frame_type,
         words::byte(frame, 3),
         words::byte(frame, 2),
         count,

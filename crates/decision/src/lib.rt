@@ -5,7 +5,8 @@
 ghost use mathlib.Core.Path.{_≡_};
 ghost use mathlib.Core.Bool.{false};
 ghost use Prim.Native.Nat.{_+_, _≤_};
-ghost use Rattle.words.specs.Words.{wordsOf};
+ghost use Rattle.words.specs.Words.{wordsOf, wordOr0};
+ghost use Rattle.words.specs.Choice.{orElse};
 ghost use Rattle.words.specs.Table.{field};
 ghost use Rattle.words.specs.Rows.{firstFailing};
 ghost use Rattle.compare.specs.Compare.{differences};
@@ -69,11 +70,11 @@ fn wrong_signature(command: Command) -> u8
     }
 }
 
-// Check 8: `holds` says that the signature is right.
-fn signature_status(command: Command, holds: bool) -> u8
-    ensures { λ r. ⌜ r ≡ firstFailing (signatureChecks (commandType command) holds) ⌝ }
+// Check 8.
+fn signature_status(command: Command, frame: [u8; 64], digest: [u8; 32]) -> u8
+    ensures { λ r. ⌜ r ≡ firstFailing (signatureChecks (commandType command) (signatureHolds command frame digest)) ⌝ }
 {
-    if holds {
+    if signature_holds(command, frame, digest) {
         return 0;
     }
     wrong_signature(command)
@@ -93,25 +94,32 @@ fn increment_status(sent: u32, value: u32) -> u8
 }
 
 // Checks 9 and 10: an increment alone has them.
-fn value_status(command: Command, sent: u32, value: u32) -> u8
-    ensures { λ r. ⌜ r ≡ firstFailing (valueChecks (commandType command) sent value) ⌝ }
+fn value_status(command: Command, frame: [u8; 64], value: u32) -> u8
+    ensures { λ r. ⌜ r ≡ firstFailing (valueChecks (commandType command) (wordOr0 frame 4) value) ⌝ }
 {
     match command {
         Command::WriteRootKey => 0,
         Command::UpdateSessionKey => 0,
-        Command::IncrementCounter => increment_status(sent, value),
+        Command::IncrementCounter => increment_status(words::get(&frame, 4), value),
         Command::RequestCounter => 0,
     }
+}
+
+// The first of two statuses that is not 0.
+fn or_else(status: u8, after: u8) -> u8
+    ensures { λ r. ⌜ r ≡ orElse status after ⌝ }
+{
+    if status != 0 {
+        return status;
+    }
+    after
 }
 
 // Checks 8 to 10: the status of the first that fails, 0 if none does. The signature decides before the counter data does.
 pub fn decision(command: Command, frame: [u8; 64], digest: [u8; 32], value: u32) -> u8
     ensures { λ r. ⌜ r ≡ decision command frame digest value ⌝ }
 {
-    let signature = signature_status(command, signature_holds(command, frame, digest));
-    let data = value_status(command, words::get(&frame, 4), value);
-    if signature != 0 {
-        return signature;
-    }
-    data
+    let signature = signature_status(command, frame, digest);
+    let data = value_status(command, frame, value);
+    or_else(signature, data)
 }
