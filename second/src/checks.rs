@@ -54,8 +54,8 @@ fn kind_of(frame: &[u8], image: &[u8], slot: usize) -> Kind {
             match (all_ff, counter_unset) {
                 (false, true) => Kind::RootKeyAndCounter,
                 (false, false) => Kind::RootKey,
-                (true, true) => Kind::CounterOnly,
-                (true, false) => Kind::Nothing,
+                (true, true) => Kind::TemporaryKeyAndCounter,
+                (true, false) => Kind::TemporaryKey,
             }
         }
     }

@@ -3,13 +3,13 @@
 
 use crate::layout;
 
-/// The kinds of job. The first four are a root key frame's, by what it has to store.
+/// The kinds of job. The first four are a root key frame's, by its key and by whether it sets the counter.
 #[derive(Clone, Copy, PartialEq)]
 pub enum Kind {
     RootKeyAndCounter,
     RootKey,
-    CounterOnly,
-    Nothing,
+    TemporaryKeyAndCounter,
+    TemporaryKey,
     SessionKey,
     Increment,
     Request,
@@ -21,8 +21,8 @@ impl Kind {
         match self {
             Kind::RootKeyAndCounter => 15,
             Kind::RootKey => 13,
-            Kind::CounterOnly => 6,
-            Kind::Nothing => 4,
+            Kind::TemporaryKeyAndCounter => 6,
+            Kind::TemporaryKey => 4,
             Kind::SessionKey => 8,
             Kind::Increment => 5,
             Kind::Request => 8,
@@ -64,7 +64,7 @@ pub struct Job {
 /// No job.
 pub const NO_JOB: Job = Job {
     there: false,
-    kind: Kind::Nothing,
+    kind: Kind::TemporaryKey,
     counter: 0,
     step: 0,
     kept: 0,

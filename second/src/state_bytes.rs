@@ -12,8 +12,8 @@ const LENGTH: usize = 383;
 const KINDS: [Kind; 7] = [
     Kind::RootKeyAndCounter,
     Kind::RootKey,
-    Kind::CounterOnly,
-    Kind::Nothing,
+    Kind::TemporaryKeyAndCounter,
+    Kind::TemporaryKey,
     Kind::SessionKey,
     Kind::Increment,
     Kind::Request,

@@ -27,9 +27,9 @@ fn next_store(job: &Job) -> Option<(usize, u32)> {
             Some([(VALUE, 0), (COUNTER_STATE, SET), (ROOT_STATE, SET)][number - 8])
         }
         Kind::RootKey => Some((ROOT_STATE, SET)),
-        Kind::CounterOnly => Some([(VALUE, 0), (COUNTER_STATE, SET)][number]),
+        Kind::TemporaryKeyAndCounter => Some([(VALUE, 0), (COUNTER_STATE, SET)][number]),
         Kind::Increment => Some((VALUE, job.kept)),
-        Kind::Nothing | Kind::SessionKey | Kind::Request => None,
+        Kind::TemporaryKey | Kind::SessionKey | Kind::Request => None,
     }
 }
 
