@@ -13,11 +13,26 @@ returns c = simp (← c .before .byte .ensures, lt-ltb _ _ (c .if1 .taken))
 
 returns-2 : tie.Need-returns-2
 unfolding arrivalStatus firstOf pick
-returns-2 c = simp (← c .before .before .before .byte .ensures, le-ltb _ _ (c .before .before .if1 .left), ← c .before .frame-length .ensures, ne-eqb _ _ (c .if2 .taken))
+returns-2 c =
+    simp (
+      ← c .before .before .before .byte .ensures,
+      le-ltb _ _ (c .before .before .if1 .left),
+      ← c .before .frame-length .ensures,
+      ne-eqb _ _ (c .if2 .taken),
+    )
 
 returns-3 : tie.Need-returns-3
 unfolding arrivalStatus firstOf pick
-returns-3 c = simp (← c .before .before .before .before .before .before .byte .ensures, le-ltb _ _ (c .before .before .before .before .before .if1 .left), ← c .before .before .before .before .frame-length .ensures, eq-eqb _ _ (c .before .before .before .if2 .left), c .before .before .byte2 .ensures, c .before .byte3 .ensures, c .status-of .ensures)
+returns-3 c =
+    simp (
+      ← c .before .before .before .before .before .before .byte .ensures,
+      le-ltb _ _ (c .before .before .before .before .before .if1 .left),
+      ← c .before .before .before .before .frame-length .ensures,
+      eq-eqb _ _ (c .before .before .before .if2 .left),
+      c .before .before .byte2 .ensures,
+      c .before .byte3 .ensures,
+      c .status-of .ensures,
+    )
 
 pub arrival-status-spec : {M : Type 1} → statement M
 arrival-status-spec =

@@ -24,15 +24,43 @@ returns-4 c = simp (eq-eqb _ _ (c .before .before .before .if1 .left), lt-ltb _ 
 
 returns-5 : tie.Need-returns-5
 unfolding firstOf pick
-returns-5 c = simp (eq-eqb _ _ (c .before .before .before .before .before .if1 .left), lt-ltb _ _ (c .before .before .before .before .if2 .left), ← c .before .before .before .is-bad .ensures, c .before .before .if4 .left, ← c .before .wrong-state .ensures, c .if5 .taken)
+returns-5 c =
+    simp (
+      eq-eqb _ _ (c .before .before .before .before .before .if1 .left),
+      lt-ltb _ _ (c .before .before .before .before .if2 .left),
+      ← c .before .before .before .is-bad .ensures,
+      c .before .before .if4 .left,
+      ← c .before .wrong-state .ensures,
+      c .if5 .taken,
+    )
 
 returns-6 : tie.Need-returns-6
 unfolding firstOf pick
-returns-6 c = simp (eq-eqb _ _ (c .before .before .before .before .before .before .before .if1 .left), lt-ltb _ _ (c .before .before .before .before .before .before .if2 .left), ← c .before .before .before .before .before .is-bad .ensures, c .before .before .before .before .if4 .left, ← c .before .before .before .wrong-state .ensures, c .before .before .if5 .left, ← c .before .not-ready .ensures, c .if6 .taken)
+returns-6 c =
+    simp (
+      eq-eqb _ _ (c .before .before .before .before .before .before .before .if1 .left),
+      lt-ltb _ _ (c .before .before .before .before .before .before .if2 .left),
+      ← c .before .before .before .before .before .is-bad .ensures,
+      c .before .before .before .before .if4 .left,
+      ← c .before .before .before .wrong-state .ensures,
+      c .before .before .if5 .left,
+      ← c .before .not-ready .ensures,
+      c .if6 .taken,
+    )
 
 returns-7 : tie.Need-returns-7
 unfolding firstOf pick
-returns-7 c = simp (eq-eqb _ _ (c .before .before .before .before .before .before .before .if1 .left), lt-ltb _ _ (c .before .before .before .before .before .before .if2 .left), ← c .before .before .before .before .before .is-bad .ensures, c .before .before .before .before .if4 .left, ← c .before .before .before .wrong-state .ensures, c .before .before .if5 .left, ← c .before .not-ready .ensures, c .if6 .left)
+returns-7 c =
+    simp (
+      eq-eqb _ _ (c .before .before .before .before .before .before .before .if1 .left),
+      lt-ltb _ _ (c .before .before .before .before .before .before .if2 .left),
+      ← c .before .before .before .before .before .is-bad .ensures,
+      c .before .before .before .before .if4 .left,
+      ← c .before .before .before .wrong-state .ensures,
+      c .before .before .if5 .left,
+      ← c .before .not-ready .ensures,
+      c .if6 .left,
+    )
 
 pub status-of-spec : {M : Type 1} → statement M
 status-of-spec =

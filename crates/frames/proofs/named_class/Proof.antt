@@ -23,23 +23,55 @@ returns-4 c = simp (ne-eqb _ _ (c .before .before .if1 .left), eq-eqb _ _ (c .be
 
 returns-5 : tie.Need-returns-5
 unfolding namedClass pick
-returns-5 c = simp (ne-eqb _ _ (c .before .before .before .if1 .left), ne-eqb _ _ (c .before .before .if3 .left), eq-eqb _ _ (c .before .if5 .taken), eq-eqb _ _ (c .if6 .taken))
+returns-5 c =
+    simp (
+      ne-eqb _ _ (c .before .before .before .if1 .left),
+      ne-eqb _ _ (c .before .before .if3 .left),
+      eq-eqb _ _ (c .before .if5 .taken),
+      eq-eqb _ _ (c .if6 .taken),
+    )
 
 returns-6 : tie.Need-returns-6
 unfolding namedClass pick
-returns-6 c = simp (ne-eqb _ _ (c .before .before .before .if1 .left), ne-eqb _ _ (c .before .before .if3 .left), eq-eqb _ _ (c .before .if5 .taken), ne-eqb _ _ (c .if6 .left))
+returns-6 c =
+    simp (
+      ne-eqb _ _ (c .before .before .before .if1 .left),
+      ne-eqb _ _ (c .before .before .if3 .left),
+      eq-eqb _ _ (c .before .if5 .taken),
+      ne-eqb _ _ (c .if6 .left),
+    )
 
 returns-7 : tie.Need-returns-7
 unfolding namedClass pick
-returns-7 c = simp (ne-eqb _ _ (c .before .before .before .before .if1 .left), ne-eqb _ _ (c .before .before .before .if3 .left), ne-eqb _ _ (c .before .before .if5 .left), eq-eqb _ _ (c .before .if7 .taken), lt-ltb _ _ (c .if8 .taken))
+returns-7 c =
+    simp (
+      ne-eqb _ _ (c .before .before .before .before .if1 .left),
+      ne-eqb _ _ (c .before .before .before .if3 .left),
+      ne-eqb _ _ (c .before .before .if5 .left),
+      eq-eqb _ _ (c .before .if7 .taken),
+      lt-ltb _ _ (c .if8 .taken),
+    )
 
 returns-8 : tie.Need-returns-8
 unfolding namedClass pick
-returns-8 c = simp (ne-eqb _ _ (c .before .before .before .before .if1 .left), ne-eqb _ _ (c .before .before .before .if3 .left), ne-eqb _ _ (c .before .before .if5 .left), eq-eqb _ _ (c .before .if7 .taken), le-ltb _ _ (c .if8 .left))
+returns-8 c =
+    simp (
+      ne-eqb _ _ (c .before .before .before .before .if1 .left),
+      ne-eqb _ _ (c .before .before .before .if3 .left),
+      ne-eqb _ _ (c .before .before .if5 .left),
+      eq-eqb _ _ (c .before .if7 .taken),
+      le-ltb _ _ (c .if8 .left),
+    )
 
 returns-9 : tie.Need-returns-9
 unfolding namedClass pick
-returns-9 c = simp (ne-eqb _ _ (c .before .before .before .if1 .left), ne-eqb _ _ (c .before .before .if3 .left), ne-eqb _ _ (c .before .if5 .left), ne-eqb _ _ (c .if7 .left))
+returns-9 c =
+    simp (
+      ne-eqb _ _ (c .before .before .before .if1 .left),
+      ne-eqb _ _ (c .before .before .if3 .left),
+      ne-eqb _ _ (c .before .if5 .left),
+      ne-eqb _ _ (c .if7 .left),
+    )
 
 pub named-class-spec : {M : Type 1} → statement M
 named-class-spec =

@@ -16,7 +16,13 @@ returns-2 c = simp (c .before .if1 .left, eq-eqb _ _ (c .if2 .taken))
 
 returns-3 : tie.Need-returns-3
 unfolding readByte pick
-returns-3 c = simp (c .before .before .before .before .if1 .left, ne-eqb _ _ (c .before .before .before .if2 .left), c .before .before .if3 .taken, lt-ltb _ _ (c .before .if4 .taken))
+returns-3 c =
+    simp (
+      c .before .before .before .before .if1 .left,
+      ne-eqb _ _ (c .before .before .before .if2 .left),
+      c .before .before .if3 .taken,
+      lt-ltb _ _ (c .before .if4 .taken),
+    )
 
 returns-4 : tie.Need-returns-4
 unfolding readByte pick

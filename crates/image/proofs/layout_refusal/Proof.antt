@@ -33,11 +33,25 @@ add-if4 c = let a = c .before .before .before .before .args in omega (arith, pro
 
 returns-4 : tie.Need-returns-4
 unfolding firstOf anyOf pick
-returns-4 c = simp (le-ltb _ _ (c .before .before .before .before .if1 .left), eq-eqb _ _ (c .before .before .before .if2 .left), ← c .before .before .is-size .ensures, c .before .if3 .left, lt-ltb _ _ (c .if4 .taken))
+returns-4 c =
+    simp (
+      le-ltb _ _ (c .before .before .before .before .if1 .left),
+      eq-eqb _ _ (c .before .before .before .if2 .left),
+      ← c .before .before .is-size .ensures,
+      c .before .if3 .left,
+      lt-ltb _ _ (c .if4 .taken),
+    )
 
 returns-5 : tie.Need-returns-5
 unfolding firstOf anyOf pick
-returns-5 c = simp (le-ltb _ _ (c .before .before .before .before .if1 .left), eq-eqb _ _ (c .before .before .before .if2 .left), ← c .before .before .is-size .ensures, c .before .if3 .left, le-ltb _ _ (c .if4 .left))
+returns-5 c =
+    simp (
+      le-ltb _ _ (c .before .before .before .before .if1 .left),
+      eq-eqb _ _ (c .before .before .before .if2 .left),
+      ← c .before .before .is-size .ensures,
+      c .before .if3 .left,
+      le-ltb _ _ (c .if4 .left),
+    )
 
 pub layout-refusal-spec : {M : Type 1} → statement M
 layout-refusal-spec =

@@ -17,11 +17,27 @@ returns-2 c = simp (le-ltb _ _ (c .before .if1 .left), lt-ltb _ _ (c .if2 .taken
 
 returns-3 : tie.Need-returns-3
 unfolding refusal firstOf anyOf pick
-returns-3 c = simp (le-ltb _ _ (c .before .before .before .if1 .left), le-ltb _ _ (c .before .before .if2 .left), ← c .before .get .ensures, ne-eqb _ _ (c .if3 .taken))
+returns-3 c =
+    simp (
+      le-ltb _ _ (c .before .before .before .if1 .left),
+      le-ltb _ _ (c .before .before .if2 .left),
+      ← c .before .get .ensures,
+      ne-eqb _ _ (c .if3 .taken),
+    )
 
 returns-4 : tie.Need-returns-4
 unfolding refusal firstOf anyOf pick
-returns-4 c = simp (le-ltb _ _ (c .before .before .before .before .before .before .before .if1 .left), le-ltb _ _ (c .before .before .before .before .before .before .if2 .left), ← c .before .before .before .before .before .get .ensures, eq-eqb _ _ (c .before .before .before .before .if3 .left), c .before .before .before .count .ensures, c .before .before .get2 .ensures, c .before .get3 .ensures, c .header-refusal .ensures)
+returns-4 c =
+    simp (
+      le-ltb _ _ (c .before .before .before .before .before .before .before .if1 .left),
+      le-ltb _ _ (c .before .before .before .before .before .before .if2 .left),
+      ← c .before .before .before .before .before .get .ensures,
+      eq-eqb _ _ (c .before .before .before .before .if3 .left),
+      c .before .before .before .count .ensures,
+      c .before .before .get2 .ensures,
+      c .before .get3 .ensures,
+      c .header-refusal .ensures,
+    )
 
 pub refusal-spec : {M : Type 1} → statement M
 refusal-spec =
