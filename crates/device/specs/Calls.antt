@@ -1,5 +1,6 @@
 -- Document 01, "Refusal numbers": the three calls, refused ones too, and what each leaves. Assumes nothing.
 use Prim.Native.Nat.{ℕ}
+use mathlib.Core.Bool.{Bool}
 use mathlib.Core.List.{List, []}
 use lib.Dec.{eqb}
 use Rattle.words.specs.Choice.{pick}
@@ -73,6 +74,10 @@ after (Work quota) d = leaving (afterWork d quota) [] (imageAfterWork d quota)
 -- the device after a call
 abbrev pub called : Call → Device → Device
 called call d = after call d .device
+
+-- busy: a job is there
+abbrev pub isBusy : Device → Bool
+isBusy d = d .state .job .there
 
 -- what is seen of a device
 abbrev pub outcome : Device → Outcome

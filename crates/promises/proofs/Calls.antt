@@ -25,14 +25,14 @@ use Rattle.rules.specs.Whole.{frameKept, statusOnArrival, Outcome, kindIn, whol
 use Rattle.arrival.proofs.Arrives.{arrived-starts, arrived-fails}
 use Rattle.device.specs.Frame.{withEnabled}
 use Rattle.device.specs.Work.{Device, run}
-use Rattle.device.specs.Calls.{device, outcome}
+use Rattle.device.specs.Calls.{device, outcome, isBusy}
 use Rattle.progress.proofs.Runs.{run-idle, run-add}
 use Rattle.progress.proofs.Jobs.{At, progress}
 use Rattle.progress.proofs.Enabled.{enabledAs, run-same}
 use Rattle.progress.proofs.Ends.{same-end}
 use Rattle.progress.proofs.RunsWhole.{runs-whole}
 use Rattle.promises.specs.Compared.{Alike}
-use Rattle.promises.specs.Account.{Account, isBusy, goneBy, worked, interrupted, cut}
+use Rattle.promises.specs.Account.{Account, goneBy, worked, interrupted, cut}
 use Rattle.promises.specs.Formed.{Formed}
 use Rattle.promises.proofs.WholeOwn.{whole-kept}
 use Rattle.promises.proofs.Alikes.{whole-formed, alike-whole}

@@ -22,13 +22,13 @@ use Rattle.state.proofs.Running.{no-job-idle}
 use Rattle.arrival.specs.Arrival.{arrived}
 use Rattle.device.specs.Frame.{withEnabled, stateAfter, outputAfter}
 use Rattle.device.specs.Work.{Device, run, stepsDone}
-use Rattle.device.specs.Calls.{device, poweredUp, After, Call, PowerUp, Frame, Work, called, after, outcome}
+use Rattle.device.specs.Calls.{device, poweredUp, After, Call, PowerUp, Frame, Work, called, after, outcome, isBusy}
 use Rattle.device.proofs.AfterCalls.{frame-accepted, work-accepted}
 use Rattle.progress.proofs.Runs.{run-idle}
 use Rattle.progress.proofs.Jobs.{runs}
 use Rattle.promises.specs.Compared.{Alike}
 use Rattle.promises.specs.Orders.{allCalled}
-use Rattle.promises.specs.Account.{Account, isBusy, goneBy, worked, cut, framed, accounted, account, begun}
+use Rattle.promises.specs.Account.{Account, goneBy, worked, cut, framed, accounted, account, begun}
 use Rattle.promises.proofs.Sound.{Resting, Working, Sound, rest-sound}
 use Rattle.promises.proofs.Interrupted.{below-now}
 use Rattle.promises.proofs.Calls.{formed-on, accepted-now, enabled-only, cut-off, taken-by, worked-by}

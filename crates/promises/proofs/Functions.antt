@@ -8,13 +8,13 @@ use denote.Ref.{now}
 use Rattle.image.specs.Refusal.{refusal}
 use Rattle.device.specs.declared.Answer.{Answer}
 use Rattle.device.specs.Work.{Device}
-use Rattle.device.specs.Calls.{device, poweredUp, After, leaving, after, Call, PowerUp, Frame, Work, outcome}
+use Rattle.device.specs.Calls.{device, poweredUp, After, leaving, after, Call, PowerUp, Frame, Work, outcome, isBusy}
 use Rattle.device.proofs.power_up.Reads as power-up-reads
 use Rattle.device.proofs.frame.Reads as frame-reads
 use Rattle.device.proofs.work.Reads as work-reads
 use Rattle.promises.specs.Compared.{Alike}
 use Rattle.promises.specs.Orders.{allCalled}
-use Rattle.promises.specs.Account.{isBusy, account, begun}
+use Rattle.promises.specs.Account.{account, begun}
 use Rattle.promises.specs.Functions.{Did, Ran}
 use Rattle.promises.proofs.FirstHalf.{same-devices, as-if-whole}
 

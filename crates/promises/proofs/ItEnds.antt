@@ -18,11 +18,11 @@ use Rattle.state.specs.declared.State.{State}
 use Rattle.state.specs.Refusal.{isRunning}
 use Rattle.device.specs.Frame.{withEnabled, stateAfter}
 use Rattle.device.specs.Work.{Device, run, stepsDone}
-use Rattle.device.specs.Calls.{device, poweredUp, After, Call, PowerUp, Frame, Work, called, after, outcome}
+use Rattle.device.specs.Calls.{device, poweredUp, After, Call, PowerUp, Frame, Work, called, after, outcome, isBusy}
 use Rattle.progress.proofs.Jobs.{runs, progress}
 use Rattle.progress.proofs.Ends.{work-ends}
 use Rattle.rules.specs.Whole.{kindIn}
-use Rattle.promises.specs.Account.{Account, isBusy, accounted, account, begun}
+use Rattle.promises.specs.Account.{Account, accounted, account, begun}
 use Rattle.promises.proofs.Sound.{Sound}
 use Rattle.promises.proofs.FirstHalf.{frame-done, work-done, next, all-sound, start-sound, same-device}
 

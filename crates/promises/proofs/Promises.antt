@@ -12,14 +12,14 @@ use Rattle.jobs.proofs.Longest as Longest
 use Rattle.state.specs.Parts.{noKey, powerOn}
 use Rattle.state.specs.Refusal.{isRunning, deviceRefusal}
 use Rattle.device.specs.Work.{Device, run}
-use Rattle.device.specs.Calls.{device, After, Call, PowerUp, Frame, Work, called, after, outcome}
+use Rattle.device.specs.Calls.{device, After, Call, PowerUp, Frame, Work, called, after, outcome, isBusy}
 use Rattle.device.proofs.AfterCalls as AfterCalls
 use Rattle.progress.proofs.Ends as Ends
 use Rattle.rules.proofs.TooShort as TooShort
 use Rattle.rules.specs.Whole.{Outcome, failedWith, whole}
 use Rattle.promises.specs.Compared.{counterIn, Alike}
 use Rattle.promises.specs.Orders.{allCalled}
-use Rattle.promises.specs.Account.{isBusy, account, begun}
+use Rattle.promises.specs.Account.{account, begun}
 use Rattle.promises.specs.Reordering.{ownFrames, allWhole, ownStatuses, eachRun, Commands}
 use Rattle.promises.specs.Examples.{Example, Ready, Given, script, Seen}
 use Rattle.promises.specs.Formed.{Formed}

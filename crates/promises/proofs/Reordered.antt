@@ -15,10 +15,10 @@ use Rattle.jobs.specs.Jobs.{longest}
 use Rattle.state.specs.declared.Key.{Key}
 use Rattle.state.specs.Parts.{noKey}
 use Rattle.device.specs.Work.{Device}
-use Rattle.device.specs.Calls.{Frame, Work, called}
+use Rattle.device.specs.Calls.{Frame, Work, called, isBusy}
 use Rattle.rules.specs.Whole.{Outcome, whole}
 use Rattle.promises.specs.Compared.{counterIn}
-use Rattle.promises.specs.Account.{Account, isBusy, goneBy, worked, framed, accounted, account}
+use Rattle.promises.specs.Account.{Account, goneBy, worked, framed, accounted, account}
 use Rattle.promises.specs.Reordering.{ownFrames, allWhole, eachRun, Commands}
 use Rattle.promises.proofs.Sound.{Resting, Sound}
 use Rattle.promises.specs.Formed.{Formed}

@@ -14,7 +14,7 @@ use Rattle.state.specs.Parts.{noJob, powerOn}
 use Rattle.plan.specs.Stores.{counterStores}
 use Rattle.plan.specs.Storing.{allStored}
 use Rattle.device.specs.Work.{Device}
-use Rattle.device.specs.Calls.{device, Call, PowerUp, Frame, Work, called, outcome}
+use Rattle.device.specs.Calls.{device, isBusy, Call, PowerUp, Frame, Work, called, outcome}
 use Rattle.rules.specs.Whole.{Outcome, whole}
 
 -- the device itself, what it would be, and the command frame that found it idle last
@@ -22,9 +22,6 @@ pub record Account : Type 0 where
   pub device : Device
   pub asIf : Outcome
   pub frame : List ℕ
-
-abbrev pub isBusy : Device → Bool
-isBusy d = d .state .job .there
 
 -- the call goes by, and no frame has ended
 abbrev pub goneBy : Device → Account → Account

@@ -17,8 +17,7 @@ use Rattle.state.specs.Parts.{noKey, sessionKey}
 use Rattle.decision.specs.Signature.{signatureHolds}
 use Rattle.rules.specs.Whole.{frameKept, isTemporary, signature}
 use Rattle.device.specs.Work.{Device}
-use Rattle.device.specs.Calls.{Call, PowerUp, Frame, Work, outcome}
-use Rattle.promises.specs.Account.{isBusy}
+use Rattle.device.specs.Calls.{Call, PowerUp, Frame, Work, outcome, isBusy}
 
 -- the rows; P9 and P10 make two claims each
 pub data Example : Type 0 where
