@@ -2,7 +2,7 @@
 use Prim.Native.Nat.{ℕ}
 use mathlib.Core.List.{List}
 use Rattle.device.specs.Work.{Device}
-use Rattle.promises.specs.Orders.{allCalled}
+use Rattle.orders.specs.Orders.{allCalled}
 use Rattle.promises.specs.Examples.{Example, P1, P2, P3, P4, P5, P6, P7, P8, P9-before-the-end, P9-at-the-end, P10-cut-before-the-end, P10-cut-before-the-counter, P11, P12, P13, P14, Ready, Given, script, Seen}
 use Rattle.promises.proofs.ExamplesArrival.{alone, short, unknown-type, root-key-beyond, session-key-beyond, session-key-unset, request-without-key, root-key-set, bad-slot, no-reset}
 use Rattle.promises.proofs.ExamplesJobs.{busy-before-the-end, done-at-the-end, temporary-key, full-counter}

@@ -22,7 +22,7 @@ use Rattle.device.specs.Frame.{withEnabled}
 use Rattle.device.specs.Work.{Device}
 use Rattle.device.specs.Calls.{device, Frame, called}
 use Rattle.progress.proofs.Enabled.{enabledAs}
-use Rattle.promises.specs.Orders.{allCalled}
+use Rattle.orders.specs.Orders.{allCalled}
 use Rattle.promises.specs.Examples.{P1, P2, P3, P4, P5, P6, P7, P8, P13, P14, Ready, slotFor, Shaped, InOrder, Seen, IdleWith}
 use Rattle.promises.proofs.ExamplesCalls.{Holds, frame-called, ready-enabled, command-called}
 

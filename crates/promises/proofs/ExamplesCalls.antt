@@ -16,11 +16,11 @@ use Rattle.device.specs.Work.{Device, run}
 use Rattle.device.specs.Calls.{device, After, Frame, Work, called, outcome}
 use Rattle.progress.proofs.Enabled.{enabledAs}
 use Rattle.progress.proofs.Ends.{work-runs}
-use Rattle.promises.specs.Orders.{allCalled}
-use Rattle.promises.specs.Account.{Account, accounted}
+use Rattle.orders.specs.Orders.{allCalled}
+use Rattle.orders.specs.Account.{Account, accounted}
 use Rattle.promises.specs.Examples.{Example, Ready, Given, script, Seen}
-use Rattle.promises.proofs.Sound.{started, Sound, rest-sound}
-use Rattle.promises.proofs.FirstHalf.{not-refused, frame-done, next, same-device}
+use Rattle.orders.proofs.Sound.{started, Sound, rest-sound}
+use Rattle.orders.proofs.FirstHalf.{not-refused, frame-done, next, same-device}
 
 -- given what a row says, and called as it says, a device shows what it says
 abbrev pub Holds : Example → Device → List ℕ → List ℕ → Type 0

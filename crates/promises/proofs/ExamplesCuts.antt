@@ -20,10 +20,10 @@ use Rattle.plan.specs.Storing.{allStored}
 use Rattle.plan.proofs.InSlot.{putAll, some-made}
 use Rattle.rules.specs.Whole.{frameKept}
 use Rattle.device.specs.Work.{Device}
-use Rattle.promises.specs.Compared.{Counter, counterIn}
-use Rattle.promises.specs.Orders.{allCalled}
+use Rattle.counters.specs.Compared.{Counter, counterIn}
+use Rattle.orders.specs.Orders.{allCalled}
 use Rattle.promises.specs.Examples.{P10-cut-before-the-end, P10-cut-before-the-counter, Ready, Pairs, Seen, script}
-use Rattle.promises.proofs.Counters.{readCounter, counter-read}
+use Rattle.counters.proofs.Counters.{readCounter, counter-read}
 use Rattle.promises.proofs.ExamplesJobs.{pairing, some-stored}
 
 module _ (d : Device) (ready : Ready d) (frame output : List ℕ) (p : Pairs d frame) where

@@ -34,9 +34,9 @@ use Rattle.progress.proofs.Runs.{run-add}
 use Rattle.progress.proofs.Hashing.{busy, begun, hashedAt, afterFour, four-steps}
 use Rattle.progress.proofs.Stores.{stores-left, all-made}
 use Rattle.words.proofs.Fields.{field-within}
-use Rattle.promises.specs.Orders.{allCalled}
+use Rattle.orders.specs.Orders.{allCalled}
 use Rattle.promises.specs.Examples.{P9-before-the-end, P9-at-the-end, P11, P12, Ready, slotFor, InOrder, Good, Pairs, Seen, IdleWith}
-use Rattle.promises.proofs.Sound.{started}
+use Rattle.orders.proofs.Sound.{started}
 use Rattle.promises.proofs.ExamplesCalls.{Holds, work-called}
 use Rattle.promises.proofs.ExamplesArrival.{shaped-long, fromRow, past-counter}
 

@@ -12,11 +12,11 @@ use Rattle.device.specs.Calls.{device, poweredUp, After, leaving, after, Call, 
 use Rattle.device.proofs.power_up.Reads as power-up-reads
 use Rattle.device.proofs.frame.Reads as frame-reads
 use Rattle.device.proofs.work.Reads as work-reads
-use Rattle.promises.specs.Compared.{Alike}
-use Rattle.promises.specs.Orders.{allCalled}
-use Rattle.promises.specs.Account.{account, begun}
+use Rattle.counters.specs.Compared.{Alike}
+use Rattle.orders.specs.Orders.{allCalled}
+use Rattle.orders.specs.Account.{account, begun}
 use Rattle.promises.specs.Functions.{Did, Ran}
-use Rattle.promises.proofs.FirstHalf.{same-devices, as-if-whole}
+use Rattle.orders.proofs.FirstHalf.{same-devices, as-if-whole}
 
 -- a function leaves what the definitions say
 pub functions-leave : (call : Call) (d : Device) (r : After) → Did call d r → after call d ≡ r

@@ -1,16 +1,4 @@
 -- The promises, proved.
-pub mod Counters
-pub mod Own
-pub mod WholeOwn
-pub mod Unseen
-pub mod Cuts
-pub mod Alikes
-pub mod Sound
-pub mod Interrupted
-pub mod Calls
-pub mod FirstHalf
-pub mod ItEnds
-pub mod SecondHalf
 pub mod Reordered
 pub mod Functions
 pub mod ExamplesCalls

@@ -17,17 +17,18 @@ use Rattle.device.proofs.AfterCalls as AfterCalls
 use Rattle.progress.proofs.Ends as Ends
 use Rattle.rules.proofs.TooShort as TooShort
 use Rattle.rules.specs.Whole.{Outcome, failedWith, whole}
-use Rattle.promises.specs.Compared.{counterIn, Alike}
-use Rattle.promises.specs.Orders.{allCalled}
-use Rattle.promises.specs.Account.{account, begun}
-use Rattle.promises.specs.Reordering.{ownFrames, allWhole, ownStatuses, eachRun, Commands}
+use Rattle.counters.specs.Compared.{counterIn, Alike}
+use Rattle.orders.specs.Orders.{allCalled}
+use Rattle.orders.specs.Account.{account, begun}
+use Rattle.counters.specs.Reordering.{ownFrames, allWhole, ownStatuses}
+use Rattle.promises.specs.Reordering.{eachRun, Commands}
 use Rattle.promises.specs.Examples.{Example, Ready, Given, script, Seen}
-use Rattle.promises.specs.Formed.{Formed}
-use Rattle.promises.proofs.FirstHalf as FirstHalf
-use Rattle.promises.proofs.FirstHalf.{all-sound, start-sound}
-use Rattle.promises.proofs.SecondHalf.{same-counter, same-session, same-statuses}
+use Rattle.counters.specs.Formed.{Formed}
+use Rattle.orders.proofs.FirstHalf as FirstHalf
+use Rattle.orders.proofs.FirstHalf.{all-sound, start-sound}
+use Rattle.counters.proofs.SecondHalf.{same-counter, same-session, same-statuses}
 use Rattle.promises.proofs.Reordered.{reordered-counter, reordered-session}
-use Rattle.promises.proofs.ItEnds as ItEnds
+use Rattle.orders.proofs.ItEnds as ItEnds
 use Rattle.promises.specs.Functions.{Did, Ran}
 use Rattle.promises.proofs.Functions as Functions
 use Rattle.promises.proofs.Examples as Examples

@@ -17,15 +17,16 @@ use Rattle.state.specs.Parts.{noKey}
 use Rattle.device.specs.Work.{Device}
 use Rattle.device.specs.Calls.{Frame, Work, called, isBusy}
 use Rattle.rules.specs.Whole.{Outcome, whole}
-use Rattle.promises.specs.Compared.{counterIn}
-use Rattle.promises.specs.Account.{Account, goneBy, worked, framed, accounted, account}
-use Rattle.promises.specs.Reordering.{ownFrames, allWhole, eachRun, Commands}
-use Rattle.promises.proofs.Sound.{Resting, Sound}
-use Rattle.promises.specs.Formed.{Formed}
-use Rattle.promises.proofs.Calls.{formed-as-if}
-use Rattle.promises.proofs.FirstHalf.{next, all-sound, at-rest, same-device}
-use Rattle.promises.proofs.ItEnds.{idle-after-work}
-use Rattle.promises.proofs.SecondHalf.{header-all, same-counter, same-session}
+use Rattle.counters.specs.Compared.{counterIn}
+use Rattle.orders.specs.Account.{Account, goneBy, worked, framed, accounted, account}
+use Rattle.counters.specs.Reordering.{ownFrames, allWhole}
+use Rattle.promises.specs.Reordering.{eachRun, Commands}
+use Rattle.orders.proofs.Sound.{Resting, Sound}
+use Rattle.counters.specs.Formed.{Formed}
+use Rattle.orders.proofs.Calls.{formed-as-if}
+use Rattle.orders.proofs.FirstHalf.{next, all-sound, at-rest, same-device}
+use Rattle.orders.proofs.ItEnds.{idle-after-work}
+use Rattle.counters.proofs.SecondHalf.{header-all, same-counter, same-session}
 
 -- an idle account after a frame and the steps of its job: the frame has run whole
 module _

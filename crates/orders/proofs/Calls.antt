@@ -31,13 +31,13 @@ use Rattle.progress.proofs.Jobs.{At, progress}
 use Rattle.progress.proofs.Enabled.{enabledAs, run-same}
 use Rattle.progress.proofs.Ends.{same-end}
 use Rattle.progress.proofs.RunsWhole.{runs-whole}
-use Rattle.promises.specs.Compared.{Alike}
-use Rattle.promises.specs.Account.{Account, goneBy, worked, interrupted, cut}
-use Rattle.promises.specs.Formed.{Formed}
-use Rattle.promises.proofs.WholeOwn.{whole-kept}
-use Rattle.promises.proofs.Alikes.{whole-formed, alike-whole}
-use Rattle.promises.proofs.Sound.{Resting, started, Working, Sound}
-use Rattle.promises.proofs.Interrupted.{Left, header-as-if, left-behind}
+use Rattle.counters.specs.Compared.{Alike}
+use Rattle.orders.specs.Account.{Account, goneBy, worked, interrupted, cut}
+use Rattle.counters.specs.Formed.{Formed}
+use Rattle.counters.proofs.WholeOwn.{whole-kept}
+use Rattle.counters.proofs.Alikes.{whole-formed, alike-whole}
+use Rattle.orders.proofs.Sound.{Resting, started, Working, Sound}
+use Rattle.orders.proofs.Interrupted.{Left, header-as-if, left-behind}
 
 -- the power-on state is formed
 pub formed-on : (image : List ℕ) → refusal image ≡ 0 → Formed image (powerOn .keys)

@@ -18,8 +18,8 @@ use Rattle.words.proofs.Puts.{field-put-out}
 use Rattle.image.specs.Slot.{isSet}
 use Rattle.plan.specs.declared.Store.{Store}
 use Rattle.plan.proofs.InSlot.{inFront, putAll}
-use Rattle.promises.specs.Compared.{Counter}
-use Rattle.promises.proofs.Counters.{readCounter}
+use Rattle.counters.specs.Compared.{Counter}
+use Rattle.counters.proofs.Counters.{readCounter}
 
 -- a store is not seen, by whether root and the counter are set
 abbrev isUnseen : Bool → Bool → Store → Bool

@@ -14,7 +14,7 @@ use Rattle.jobs.specs.declared.Kind.{Kind}
 use Rattle.jobs.specs.declared.Kind.the-variants.{RootKeyAndCounter, RootKey, SessionKey, Increment, Request, TemporaryKeyAndCounter, TemporaryKey}
 use Rattle.plan.specs.Stores.{keyStores, stores}
 use Rattle.plan.proofs.InSlot.{putAll}
-use Rattle.promises.specs.Compared.{Counter, valueShown, counterIn}
+use Rattle.counters.specs.Compared.{Counter, valueShown, counterIn}
 
 -- read from a slot's bytes
 unfoldable pub readCounter : List ℕ → Counter

@@ -25,10 +25,10 @@ use Rattle.plan.proofs.InSlot.{InSlot, made}
 use Rattle.rules.specs.Whole.{keptAfter, frameKept, statusOnArrival, Outcome, kindIn, valueIn, allChecks, failedWith, keysAfter, replyAfter, imageAfter, carriedOut, whole}
 use Rattle.rules.proofs.TenChecks.{all-pass}
 use Rattle.rules.proofs.Taken.{Facts, below-count, facts, one-end}
-use Rattle.promises.specs.Formed.{Formed}
-use Rattle.promises.specs.Compared.{counterIn}
-use Rattle.promises.proofs.Counters.{readCounter, counter-read, counterAfter, after-stores}
-use Rattle.promises.proofs.Own.{SameTo, key-there-same, kind-same, new-key-same, value-same, checks-same}
+use Rattle.counters.specs.Formed.{Formed}
+use Rattle.counters.specs.Compared.{counterIn}
+use Rattle.counters.proofs.Counters.{readCounter, counter-read, counterAfter, after-stores}
+use Rattle.counters.proofs.Own.{SameTo, key-there-same, kind-same, new-key-same, value-same, checks-same}
 
 -- the stores of a kind of job
 module _ (kind : Kind) (frame : List ℕ) (kept : ℕ) (image : List ℕ) (c : ℕ) (laid : Laid image) (below : c < count image) where

@@ -18,9 +18,9 @@ use Rattle.jobs.specs.declared.Kind.the-variants.{RootKeyAndCounter, RootKey, S
 use Rattle.plan.specs.declared.Store.{Store}
 use Rattle.plan.specs.Stores.{keyStores, counterStores, incrementStores, stores}
 use Rattle.plan.proofs.InSlot.{putAll}
-use Rattle.promises.specs.Compared.{Counter}
-use Rattle.promises.proofs.Counters.{readCounter}
-use Rattle.promises.proofs.Unseen.{allUnseen, unseen, some-unseen}
+use Rattle.counters.specs.Compared.{Counter}
+use Rattle.counters.proofs.Counters.{readCounter}
+use Rattle.counters.proofs.Unseen.{allUnseen, unseen, some-unseen}
 
 -- a counter set at 0, all else as it was
 abbrev pub zeroed : Counter → Counter

@@ -16,12 +16,12 @@ use Rattle.frames.specs.Layout.{counterOf}
 use Rattle.state.specs.Parts.{noKey}
 use Rattle.rules.proofs.TooShort.{two-bytes-fail}
 use Rattle.rules.specs.Whole.{Outcome, failedWith, whole}
-use Rattle.promises.specs.Compared.{counterIn}
-use Rattle.promises.specs.Reordering.{belongs, ownFrames, allWhole, ownStatuses}
-use Rattle.promises.proofs.Own.{SameTo}
-use Rattle.promises.specs.Formed.{Formed}
-use Rattle.promises.proofs.WholeOwn.{Kept, whole-kept, whole-same}
-use Rattle.promises.proofs.Alikes.{whole-formed}
+use Rattle.counters.specs.Compared.{counterIn}
+use Rattle.counters.specs.Reordering.{belongs, ownFrames, allWhole, ownStatuses}
+use Rattle.counters.proofs.Own.{SameTo}
+use Rattle.counters.specs.Formed.{Formed}
+use Rattle.counters.proofs.WholeOwn.{Kept, whole-kept, whole-same}
+use Rattle.counters.proofs.Alikes.{whole-formed}
 
 -- two outcomes that are the same to a counter: what is compared of it, and its session key
 pub record SameOf (c : ℕ) (o p : Outcome) : Type 0 where

@@ -19,10 +19,10 @@ use Rattle.state.specs.declared.Key.{Key}
 use Rattle.state.specs.Parts.{noKey}
 use Rattle.rules.specs.Whole.{Outcome, statusOnArrival, kindIn, failedWith, keysAfter, carriedOut, whole, newSessionKey}
 use Rattle.rules.proofs.Taken.{below-count, one-end}
-use Rattle.promises.specs.Compared.{counterIn, Alike}
-use Rattle.promises.proofs.Own.{SameTo}
-use Rattle.promises.specs.Formed.{Formed}
-use Rattle.promises.proofs.WholeOwn.{Kept, whole-kept, SameBy, whole-same}
+use Rattle.counters.specs.Compared.{counterIn, Alike}
+use Rattle.counters.proofs.Own.{SameTo}
+use Rattle.counters.specs.Formed.{Formed}
+use Rattle.counters.proofs.WholeOwn.{Kept, whole-kept, SameBy, whole-same}
 
 module _ (d : Outcome) (frame : List ℕ) (formed : Formed (d .image) (d .keys)) where
   abbrev c : ℕ

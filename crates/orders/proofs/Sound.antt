@@ -14,9 +14,9 @@ use Rattle.device.specs.Work.{Device, run}
 use Rattle.device.specs.Calls.{device, outcome}
 use Rattle.progress.proofs.Jobs.{At}
 use Rattle.progress.proofs.Enabled.{enabledAs}
-use Rattle.promises.specs.Compared.{Alike}
-use Rattle.promises.specs.Account.{Account}
-use Rattle.promises.specs.Formed.{Formed}
+use Rattle.counters.specs.Compared.{Alike}
+use Rattle.orders.specs.Account.{Account}
+use Rattle.counters.specs.Formed.{Formed}
 
 -- no job: the device is as if
 pub record Resting (a : Account) : Type 0 where

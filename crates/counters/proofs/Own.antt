@@ -22,7 +22,7 @@ use Rattle.decision.specs.Decision.{decision}
 use Rattle.rules.specs.Whole.{Outcome, statusOnArrival, kindIn, allChecks, keyIn, newSessionKey, lastStatus}
 use Rattle.rules.proofs.TenChecks.{all-checks}
 use Rattle.rules.proofs.Taken.{Facts, below-count, facts}
-use Rattle.promises.specs.Compared.{Counter, counterIn}
+use Rattle.counters.specs.Compared.{Counter, counterIn}
 
 -- two devices that are the same to a frame: the header, its counter as it is compared, and its session key
 pub record SameTo (frame : List ℕ) (d e : Outcome) : Type 0 where

@@ -22,9 +22,9 @@ use Rattle.device.specs.Calls.{device, poweredUp, After, Call, PowerUp, Frame, 
 use Rattle.progress.proofs.Jobs.{runs, progress}
 use Rattle.progress.proofs.Ends.{work-ends}
 use Rattle.rules.specs.Whole.{kindIn}
-use Rattle.promises.specs.Account.{Account, accounted, account, begun}
-use Rattle.promises.proofs.Sound.{Sound}
-use Rattle.promises.proofs.FirstHalf.{frame-done, work-done, next, all-sound, start-sound, same-device}
+use Rattle.orders.specs.Account.{Account, accounted, account, begun}
+use Rattle.orders.proofs.Sound.{Sound}
+use Rattle.orders.proofs.FirstHalf.{frame-done, work-done, next, all-sound, start-sound, same-device}
 
 -- a job that is there runs
 busy-runs : (a : Account) → Sound a → isBusy (a .device) ≡ true → isRunning (a .device .state) ≡ true

@@ -28,12 +28,12 @@ use Rattle.plan.proofs.Plans.{plan-length}
 use Rattle.device.specs.Calls.{outcome}
 use Rattle.rules.specs.Whole.{frameKept, Outcome, kindIn}
 use Rattle.rules.proofs.Taken.{Facts, below-count, facts}
-use Rattle.promises.specs.Compared.{Counter, counterIn}
-use Rattle.promises.specs.Account.{Account, hasSet, setTo0, interrupted}
-use Rattle.promises.proofs.Counters.{readCounter, counter-read}
-use Rattle.promises.proofs.WholeOwn.{own-after, other-after}
-use Rattle.promises.proofs.Cuts.{zeroed, Known, Cut, cut-off}
-use Rattle.promises.proofs.Sound.{Working}
+use Rattle.counters.specs.Compared.{Counter, counterIn}
+use Rattle.orders.specs.Account.{Account, hasSet, setTo0, interrupted}
+use Rattle.counters.proofs.Counters.{readCounter, counter-read}
+use Rattle.counters.proofs.WholeOwn.{own-after, other-after}
+use Rattle.counters.proofs.Cuts.{zeroed, Known, Cut, cut-off}
+use Rattle.orders.proofs.Sound.{Working}
 
 -- what an interrupted frame counts as, compared with the image that it leaves
 pub record Left (image : List ℕ) (o : Outcome) : Type 0 where

@@ -1,0 +1,3 @@
+-- An order of calls, and what the device would be along it.
+pub mod Orders
+pub mod Account
