@@ -2,3 +2,5 @@
 pub mod Orders
 pub mod Account
 pub mod Ledger
+pub mod Growing
+pub mod Touched
