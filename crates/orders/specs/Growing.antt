@@ -3,7 +3,6 @@ use Prim.Native.Nat.{ℕ, suc, _+_, _≤_, _<_}
 use mathlib.Core.Path.{_≡_}
 use mathlib.Core.Bool.{true}
 use mathlib.Core.List.{List}
-use lib.ListN.{getD}
 use Rattle.words.specs.Words.{wordOr0}
 use Rattle.image.specs.Slot.{slotOf, isSet, rootKey}
 use Rattle.jobs.specs.Jobs.{commandType}
@@ -15,10 +14,6 @@ use Rattle.rules.specs.Steps.{stepsOf}
 use Rattle.device.specs.Work.{Device}
 use Rattle.device.specs.Calls.{Call, Work}
 use Rattle.orders.specs.Ledger.{Ledger, Doing}
-
--- an image is a list of bytes
-abbrev pub Bytes : List ℕ → Type 0
-Bytes image = (i : ℕ) → getD image i 0 < 256
 
 -- a set counter stays set and its value never falls; a set root stays set and its key never changes
 pub record Grows (before after : List ℕ) (c : ℕ) : Type 0 where

@@ -3,3 +3,4 @@
 pub mod TenChecks
 pub mod Taken
 pub mod TooShort
+pub mod Passed
