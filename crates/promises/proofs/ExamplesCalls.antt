@@ -1,7 +1,7 @@
 -- What a row of the examples claims, and the calls on a ready device: a frame is not refused, a command frame is taken, and a work call
 -- does its quota of steps on the job that it started. Assumes nothing.
 use Prim.Native.Nat.{ℕ, _<_}
-use mathlib.Core.Path.{_≡_, ap, sym, subst, _∙_}
+use mathlib.Core.Path.{_≡_, ap, _∙_}
 use mathlib.Core.Bool.{Bool}
 use mathlib.Core.List.{List}
 use native.Mathlib.Omega.{arith}

@@ -7,20 +7,19 @@ use borrow.Author.Tests.{eq-eqb}
 use lib.ListN.{length, take, replicate}
 use Rattle.words.specs.Choice.{pick}
 use Rattle.words.specs.Rows.{firstOf}
-use Rattle.words.specs.Words.{wordOr0}
 use Rattle.words.proofs.Table.{length-table}
 use Rattle.words.specs.Table.{field}
 use Rattle.hmac.proofs.FourBlocks.{fourth-hmac}
 use Rattle.image.specs.Header.{count}
 use Rattle.image.specs.Slot.{isBad, rootKey}
 use Rattle.jobs.specs.Jobs.{rootKind, kindOf}
-use Rattle.jobs.specs.declared.Command.the-variants.{WriteRootKey, IncrementCounter}
+use Rattle.jobs.specs.declared.Command.the-variants.{WriteRootKey}
 use Rattle.jobs.specs.declared.Kind.{Kind}
 use Rattle.jobs.specs.declared.Kind.the-variants.{RootKeyAndCounter, Increment, TemporaryKey}
 use Rattle.frames.specs.Layout.{counterOf}
 use Rattle.state.specs.declared.Key.{Key}
 use Rattle.state.specs.declared.State.{State}
-use Rattle.state.specs.Parts.{posted, sessionKey}
+use Rattle.state.specs.Parts.{posted}
 use Rattle.decision.specs.Decision.{decision}
 use Rattle.plan.specs.Stores.{keyStores, stores}
 use Rattle.plan.specs.Storing.{allStored}
@@ -96,20 +95,16 @@ module _ (d : Device) (ready : Ready d) (frame output : List ℕ) where
   root-good : Good WriteRootKey d frame → decisionOf (hashed TemporaryKey) (valueIn (outcome d) frame) ≡ 0
   unfolding decision firstOf pick
   root-good good =
-      rw (fourth-hmac (field 4 32 sent) (field 0 4 sent) (d .state .chain) (replicate 8 0) (length-table _ 32) (field-within 0 4 55 sent (omega arith)), good)
+      let signed = fourth-hmac (field 4 32 sent) (field 0 4 sent) (d .state .chain) (replicate 8 0) (length-table _ 32) (field-within 0 4 55 sent (omega arith)) in
+      rw (signed, good)
 
   -- a good increment at FFFFFFFFh does not
-  increment-full :
-      Good IncrementCounter d frame → wordOr0 sent 4 ≡ 0xFFFFFFFF → valueIn (outcome d) frame ≡ 0xFFFFFFFF →
-      decisionOf (hashed Increment) (valueIn (outcome d) frame) ≡ 0x20
+  increment-full : Full d frame → decisionOf (hashed Increment) (valueIn (outcome d) frame) ≡ 0x20
   unfolding decision firstOf pick
-  increment-full good told full =
-      rw (
-        fourth-hmac (keyIn (outcome d) frame .bytes) (field 0 8 sent) (d .state .chain) (replicate 8 0) (ready .long-keys c) (field-within 0 8 55 sent (omega arith)),
-        good,
-        told,
-        full,
-      )
+  increment-full g =
+      let key = keyIn (outcome d) frame .bytes in
+      let signed = fourth-hmac key (field 0 8 sent) (d .state .chain) (replicate 8 0) (ready .long-keys c) (field-within 0 8 55 sent (omega arith)) in
+      rw (signed, g .good, g .told, g .full)
 
   -- a frame that pairs passes, and goes on to its stores
   pub pairing :
@@ -160,5 +155,5 @@ module _ (d : Device) (ready : Ready d) (frame output : List ℕ) where
   pub full-counter : Holds P12-at-the-end d frame output
   unfolding allCalled run firstOf decided pick
   full-counter g =
-      let after = increment-begins g 4 ∙ checks Increment (posted (hashed Increment) 0x20) (rw (increment-full (g .good) (g .told) (g .full))) 0 in
+      let after = increment-begins g 4 ∙ checks Increment (posted (hashed Increment) 0x20) (rw (increment-full g)) 0 in
       subst (IdleWith 0x20) (sym after) (refl, refl)
