@@ -22,7 +22,7 @@ use Rattle.orders.specs.Orders.{allCalled}
 use Rattle.orders.specs.Account.{account, begun}
 use Rattle.counters.specs.Reordering.{ownFrames, allWhole, ownStatuses}
 use Rattle.promises.specs.Reordering.{eachRun, Commands}
-use Rattle.promises.specs.Examples.{Example, Ready, Given, script, Seen}
+use Rattle.promises.specs.Examples.{Example, Ready, Given, script, Seen, Happens}
 use Rattle.counters.specs.Formed.{Formed}
 use Rattle.orders.proofs.FirstHalf as FirstHalf
 use Rattle.orders.proofs.FirstHalf.{all-sound, start-sound}
@@ -32,6 +32,7 @@ use Rattle.orders.proofs.ItEnds as ItEnds
 use Rattle.promises.specs.Functions.{Did, Ran}
 use Rattle.promises.proofs.Functions as Functions
 use Rattle.promises.proofs.Examples as Examples
+use Rattle.promises.proofs.ExamplesHappen as ExamplesHappen
 
 -- "Whatever the order of frames, steps, resets and power cuts, once idle the device is as if the frames that found it idle had run
 -- whole." Powered up on an accepted image; what would be is `account`, what is compared is `Alike`.
@@ -126,3 +127,7 @@ never-refused = FirstHalf.never-refused
 -- "Cases marked P are proved about the specification, as a single table under one theorem."
 pub cases-marked-P : (p : Example) (d : Device) (frame output : List ℕ) → Ready d → Given p d frame → Seen p d frame (allCalled (script p frame output) d)
 cases-marked-P = Examples.cases-marked-P
+
+-- And each row of that table happens: there are a ready device and a frame that are what it is given.
+pub each-row-happens : (p : Example) → Happens p
+each-row-happens = ExamplesHappen.each-row-happens
