@@ -7,4 +7,5 @@ pub mod Enabled
 pub mod Ends
 pub mod Storing
 pub mod Ended
+pub mod Checked
 pub mod RunsWhole
