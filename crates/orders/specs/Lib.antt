@@ -1,4 +1,4 @@
 -- An order of calls, and what the device would be along it.
 pub mod Orders
-pub mod Account
 pub mod Ledger
+pub mod InStep
