@@ -63,23 +63,24 @@ module _ (d : Outcome) (frame : List ℕ) (formed : Formed (d .image) (d .keys))
         long = λ k. long-by k _ refl;
       }
 
--- two devices that are alike
+-- two devices that are alike are the same to any frame
+pub same-to : (frame : List ℕ) (d e : Outcome) → SameHeader (d .image) (e .image) → Alike d e → SameTo frame d e
+same-to frame d e header alike =
+    record {
+      header = header;
+      counter = alike .counters (counterOf frame);
+      session = ap (λ (keys : List Key). getD keys (counterOf frame) noKey) (alike .keys);
+    }
+
+-- and come to what is alike
 module _
     (frame : List ℕ) (d e : Outcome) (formed-d : Formed (d .image) (d .keys)) (formed-e : Formed (e .image) (e .keys))
     (header : SameHeader (d .image) (e .image)) (alike : Alike d e) where
   abbrev own : ℕ
   own = counterOf frame
 
-  same-to : SameTo frame d e
-  same-to =
-      record {
-        header = header;
-        counter = alike .counters own;
-        session = ap (λ (keys : List Key). getD keys own noKey) (alike .keys);
-      }
-
   by : SameBy frame d e (whole d frame) (whole e frame)
-  by = whole-same frame d e same-to formed-d formed-e
+  by = whole-same frame d e (same-to frame d e header alike) formed-d formed-e
 
   kept-d : Kept d frame (whole d frame)
   kept-d = whole-kept d frame (formed-d .laid)

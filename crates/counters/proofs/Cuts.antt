@@ -1,8 +1,7 @@
--- The stores of a job that is cut off: what is compared is as it was, since the first stores of a plan are not seen, or the counter is
--- set at 0. Assumes nothing.
+-- The stores of a job that is cut off, by their number: what is compared is as it was, since the first stores of a plan are not seen, or
+-- the counter is set at 0. Assumes nothing.
 use Prim.Native.Nat.{ℕ, zero, suc, _≤_, _<_}
 use mathlib.Core.Path.{_≡_, refl}
-use mathlib.Core.Logic.{_⊎_, inl, inr}
 use mathlib.Core.Bool.{Bool, true, false}
 use mathlib.Core.List.{List, []}
 use native.Mathlib.Omega.{arith}
@@ -25,6 +24,17 @@ use Rattle.counters.proofs.Unseen.{allUnseen, unseen, some-unseen}
 -- a counter set at 0, all else as it was
 abbrev pub zeroed : Counter → Counter
 zeroed p = record { rootState = p .rootState; counterState = 0; value = 0; key = p .key }
+
+-- what is compared once so many stores of a job are made, and not all: a root key that sets its counter too does so in the tenth, and no
+-- other store but a job's last is seen
+abbrev pub cutAt : Kind → ℕ → Counter → Counter
+cutAt RootKeyAndCounter made p = pick (ltb 9 made) (zeroed p) p
+cutAt RootKey made p = p
+cutAt TemporaryKeyAndCounter made p = p
+cutAt TemporaryKey made p = p
+cutAt SessionKey made p = p
+cutAt Increment made p = p
+cutAt Request made p = p
 
 module _ (g : ℕ → ℕ) (frame : List ℕ) (kept : ℕ) where
   abbrev pub rootSet : Bool
@@ -63,17 +73,15 @@ module _ (g : ℕ → ℕ) (frame : List ℕ) (kept : ℕ) where
   unfolding putAll putWord keyStores table readCounter pick
   counter-seen r = rw r
 
-  -- as it was, or the counter is set at 0, which was unset
-  abbrev pub Cut : Kind → ℕ → Type 0
-  Cut kind j = (afterSome (stores kind frame kept) j ≡ before) ⊎ ((counterSet ≡ false) × (afterSome (stores kind frame kept) j ≡ zeroed before))
-
-  cut-both-by : rootSet ≡ false → counterSet ≡ false → (j : ℕ) → j < 11 → (b : Bool) → ltb j 10 ≡ b → Cut RootKeyAndCounter j
+  cut-both-by :
+      rootSet ≡ false → counterSet ≡ false → (j : ℕ) → j < 11 → (b : Bool) → ltb 9 j ≡ b →
+      afterSome (stores RootKeyAndCounter frame kept) j ≡ pick b (zeroed before) before
+  unfolding pick
   cut-both-by r s j h true l =
-      let early = ltb-true j 10 l in
-      inl (not-seen (stores RootKeyAndCounter frame kept) 9 j (omega (arith, early)) (keys-and-value r s))
+      let ten : j ≡ 10 = omega (arith, h, ltb-true 9 j l) in
+      rw ten (counter-seen r)
   cut-both-by r s j h false l =
-      let ten : j ≡ 10 = omega (arith, h, ltb-false j 10 l) in
-      inr (s, rw ten (counter-seen r))
+      not-seen (stores RootKeyAndCounter frame kept) 9 j (omega (arith, ltb-false 9 j l)) (keys-and-value r s)
 
   none-made : (j : ℕ) → afterSome [] j ≡ before
   unfolding putAll
@@ -91,12 +99,14 @@ module _ (g : ℕ → ℕ) (frame : List ℕ) (kept : ℕ) where
   Known Request = Unit {0}
 
   -- a job that is cut off has a store left
-  pub cut-off : (kind : Kind) → Known kind → (j : ℕ) → (0 < length (stores kind frame kept) → j < length (stores kind frame kept)) → Cut kind j
+  pub cut-off :
+      (kind : Kind) → Known kind → (j : ℕ) → (0 < length (stores kind frame kept) → j < length (stores kind frame kept)) →
+      afterSome (stores kind frame kept) j ≡ cutAt kind j before
   unfolding keyStores allUnseen
   cut-off RootKeyAndCounter (r, s) j h = cut-both-by r s j (h (omega arith)) _ refl
-  cut-off RootKey r j h = let left = h (omega arith) in inl (not-seen (stores RootKey frame kept) 8 j (omega (arith, left)) (keys r))
-  cut-off TemporaryKeyAndCounter s j h = let left = h (omega arith) in inl (not-seen counterStores 1 j (omega (arith, left)) (value s))
-  cut-off TemporaryKey _ j h = inl (none-made j)
-  cut-off SessionKey _ j h = inl (none-made j)
-  cut-off Increment _ j h = let left = h (omega arith) in inl (not-seen (incrementStores kept) 0 j (omega (arith, left)) refl)
-  cut-off Request _ j h = inl (none-made j)
+  cut-off RootKey r j h = let left = h (omega arith) in not-seen (stores RootKey frame kept) 8 j (omega (arith, left)) (keys r)
+  cut-off TemporaryKeyAndCounter s j h = let left = h (omega arith) in not-seen counterStores 1 j (omega (arith, left)) (value s)
+  cut-off TemporaryKey _ j h = none-made j
+  cut-off SessionKey _ j h = none-made j
+  cut-off Increment _ j h = let left = h (omega arith) in not-seen (incrementStores kept) 0 j (omega (arith, left)) refl
+  cut-off Request _ j h = none-made j

@@ -1,17 +1,16 @@
--- One call more: what holds along an order of calls holds after it. Assumes nothing.
+-- One call more: what holds of the ledger and the device along an order of calls holds after it. Assumes nothing.
 use Prim.Native.Nat.{ℕ, _+_}
 use mathlib.Core.Path.{_≡_, refl, ap, sym, subst, _∙_}
-use mathlib.Core.Logic.{inl, inr, ⊎-elim}
 use mathlib.Core.Bool.{Bool, true, false}
 use mathlib.Core.List.{List}
 use native.Mathlib.Nat.{zero-sub}
-use borrow.Author.Tests.{eqb-true}
-use lib.Dec.{eqb}
+use borrow.Author.Tests.{eqb-true, ltb-true}
+use lib.Dec.{eqb, ltb}
 use lib.ListN.{length, getD}
-use Rattle.words.specs.Choice.{pick}
+use Rattle.words.proofs.Choice.{never, either}
 use Rattle.image.specs.Refusal.{refusal}
 use Rattle.image.proofs.Laid.{SameHeader, then-header, back-header, same-laid, accepted-laid, same-refusal}
-use Rattle.jobs.specs.Jobs.{commandOf, hashSteps, longest}
+use Rattle.jobs.specs.Jobs.{commandOf, hashSteps}
 use Rattle.jobs.proofs.Longest.{some-steps}
 use Rattle.frames.specs.Layout.{counterOf}
 use Rattle.state.specs.declared.Key.{Key}
@@ -26,17 +25,20 @@ use Rattle.arrival.proofs.Arrives.{arrived-starts, arrived-fails}
 use Rattle.device.specs.Frame.{withEnabled}
 use Rattle.device.specs.Work.{Device, run}
 use Rattle.device.specs.Calls.{device, outcome, isBusy}
-use Rattle.progress.proofs.Runs.{run-idle, run-add}
+use Rattle.progress.specs.Steps.{stepsOf}
+use Rattle.progress.proofs.Runs.{run-add}
 use Rattle.progress.proofs.Jobs.{At, progress}
 use Rattle.progress.proofs.Enabled.{enabledAs, run-same}
 use Rattle.progress.proofs.Ends.{same-end}
 use Rattle.progress.proofs.RunsWhole.{runs-whole}
+use Rattle.progress.proofs.Steps.{busy-below}
 use Rattle.counters.specs.Compared.{Alike}
-use Rattle.orders.specs.Account.{Account, goneBy, worked, interrupted, cut}
 use Rattle.counters.specs.Formed.{Formed}
 use Rattle.counters.proofs.WholeOwn.{whole-kept}
-use Rattle.counters.proofs.Alikes.{whole-formed, alike-whole}
-use Rattle.orders.proofs.Sound.{Resting, started, Working, Sound}
+use Rattle.counters.proofs.Alikes.{same-to, whole-formed, alike-whole}
+use Rattle.orders.specs.Ledger.{Pending, None, Doing, Ledger, entry, going, interrupted, restarted}
+use Rattle.orders.proofs.Sound.{Resting, started, Working, AsPending, Sound}
+use Rattle.orders.proofs.SameSteps.{steps-same}
 use Rattle.orders.proofs.Interrupted.{Left, header-as-if, left-behind}
 
 -- the power-on state is formed
@@ -45,12 +47,74 @@ formed-on image accepted =
     record { laid = accepted-laid image accepted; four = refl; long = λ k. ap (λ (key : Key). length (key .bytes)) (no-key 4 k) }
 
 -- what is as if, as a device
-pub formed-as-if : (d : Device) (o : Outcome) → Formed (d .image) (d .state .keys) → SameHeader (d .image) (o .image) → Alike (outcome d) o → Formed (o .image) (o .keys)
+pub formed-as-if :
+    (d : Device) (o : Outcome) → Formed (d .image) (d .state .keys) → SameHeader (d .image) (o .image) → Alike (outcome d) o →
+    Formed (o .image) (o .keys)
 formed-as-if d o formed header alike =
     record {
       laid = same-laid (o .image) (d .image) (back-header (d .image) (o .image) header) (formed .laid);
       four = ap length (sym (alike .keys)) ∙ formed .four;
       long = λ k. ap (λ (keys : List Key). length (getD keys k noKey .bytes)) (sym (alike .keys)) ∙ formed .long k;
+    }
+
+-- the image is accepted as it stands
+pub accepted-now : (p : Pending) (o : Outcome) (d : Device) → AsPending p o d → refusal (o .image) ≡ 0 → refusal (d .image) ≡ 0
+accepted-now None o d r accepted = same-refusal (d .image) (o .image) (r .header) ∙ accepted
+accepted-now (Doing frame done) o d (w, _) accepted = same-refusal (d .image) (o .image) (header-as-if frame done o d w) ∙ accepted
+
+accepted-whole : (o : Outcome) (frame : List ℕ) → refusal (o .image) ≡ 0 → refusal (whole o frame .image) ≡ 0
+accepted-whole o frame accepted =
+    same-refusal _ (o .image) (whole-kept o frame (accepted-laid (o .image) accepted) .header) ∙ accepted
+
+-- reset-enable goes on or off, and nothing else changes
+pub enabled-only : (b : Bool) (p : Pending) (o : Outcome) (d : Device) → AsPending p o d → AsPending p o (enabledAs b d)
+unfolding withEnabled
+enabled-only b None o d r = record { formed = r .formed; none = r .none; header = r .header; alike = r .alike }
+enabled-only b (Doing frame done) o d (w, more) = (
+  record {
+    found = w .found;
+    formed = w .formed;
+    none = w .none;
+    header = w .header;
+    alike = w .alike;
+    passed = w .passed;
+    now = ap (enabledAs b) (w .now);
+    at =
+        record {
+          there = w .at .there;
+          kind-kept = w .at .kind-kept;
+          counter-kept = w .at .counter-kept;
+          frame-kept = w .at .frame-kept;
+          step = w .at .step;
+          stored-so-far = w .at .stored-so-far;
+        };
+    left = w .left;
+  },
+  more,
+)
+
+-- what is left of the frame under way, if any
+left-of : (p : Pending) (o : Outcome) (d : Device) → AsPending p o d → Left (d .image) (interrupted p o)
+left-of None o d r = record { header = r .header; counters = r .alike .counters }
+left-of (Doing frame done) o d (w, _) = left-behind frame done o d w
+
+-- a reset or a power cut
+pub cut-off :
+    (p : Pending) (o : Outcome) (d : Device) → AsPending p o d → refusal (o .image) ≡ 0 →
+    Sound (entry (restarted (interrupted p o)) None false) (device (d .image) powerOn)
+cut-off p o d state accepted =
+    let left = left-of p o d state in
+    let now = accepted-now p o d state accepted in
+    record {
+      accepted = sym (same-refusal (d .image) _ (left .header)) ∙ now;
+      enabled = refl;
+      state =
+          record {
+            formed = formed-on (d .image) now;
+            none = refl;
+            header = left .header;
+            alike = record { status = refl; reply = refl; keys = refl; counters = left .counters };
+          };
     }
 
 -- a frame has run whole: it found a device that was as if, and the device has come to the whole-frame result
@@ -63,7 +127,7 @@ module _
   header-after : SameHeader (after .image) (d .image)
   header-after = subst (λ (i : List ℕ). SameHeader i (d .image)) (sym image-after) (whole-kept (outcome d) frame (formed .laid) .header)
 
-  ended : after .state .job .there ≡ false → Resting (record { device = after; asIf = whole o frame; frame = frame })
+  ended : isBusy after ≡ false → Resting (whole o frame) after
   ended none =
       let formed-o = formed-as-if d o formed header alike in
       record {
@@ -76,95 +140,25 @@ module _
         alike = subst (λ (p : Outcome). Alike p (whole o frame)) (sym result) (alike-whole frame (outcome d) o formed formed-o header alike);
       }
 
--- the image is accepted as it stands
-pub accepted-now : (a : Account) → Sound a → refusal (a .device .image) ≡ 0
-accepted-now a sound =
-    ⊎-elim (λ r. same-refusal (a .device .image) (a .asIf .image) (r .header))
-    (λ w. same-refusal (a .device .image) (a .asIf .image) (header-as-if a w)) (sound .state)
-    ∙ sound .accepted
+-- a frame that found a device as if, n steps later: busy is as the ledger says, and once idle the frame has run whole
+module _
+    (d : Device) (frame : List ℕ) (o : Outcome) (formed : Formed (d .image) (d .state .keys)) (none : isBusy d ≡ false)
+    (header : SameHeader (d .image) (o .image)) (alike : Alike (outcome d) o) (n : ℕ) where
+  pub busy-as-told : isBusy (run n (started d frame)) ≡ ltb n (stepsOf o frame)
+  busy-as-told =
+      busy-below d frame none (formed .long (counterOf frame)) n
+      ∙ ap (ltb n) (steps-same frame (outcome d) o (same-to frame (outcome d) o header alike))
 
-accepted-whole : (o : Outcome) (frame : List ℕ) → refusal (o .image) ≡ 0 → refusal (whole o frame .image) ≡ 0
-accepted-whole o frame accepted =
-    same-refusal _ (o .image) (whole-kept o frame (accepted-laid (o .image) accepted) .header) ∙ accepted
-
--- reset-enable goes on or off, and nothing else changes
-pub enabled-only : (b : Bool) (a : Account) → Sound a → Sound (goneBy (enabledAs b (a .device)) a)
-unfolding withEnabled
-enabled-only b a sound =
-    record { accepted = sound .accepted; state = ⊎-elim (λ r. inl (resting r)) (λ w. inr (working w)) (sound .state) }
-  where
-    resting : Resting a → Resting (goneBy (enabledAs b (a .device)) a)
-    resting r = record { formed = r .formed; none = r .none; header = r .header; alike = r .alike }
-
-    working : Working a → Working (goneBy (enabledAs b (a .device)) a)
-    working w =
-        record {
-          found = w .found;
-          steps = w .steps;
-          enabled = b;
-          formed = w .formed;
-          none = w .none;
-          header = w .header;
-          alike = w .alike;
-          passed = w .passed;
-          now = ap (enabledAs b) (w .now);
-          at =
-              record {
-                there = w .at .there;
-                kind-kept = w .at .kind-kept;
-                counter-kept = w .at .counter-kept;
-                frame-kept = w .at .frame-kept;
-                step = w .at .step;
-                stored-so-far = w .at .stored-so-far;
-              };
-          left = w .left;
-        }
-
--- nothing is interrupted where no job is
-nothing-left : (a : Account) → Resting a → Left (a .device .image) (interrupted a)
-unfolding interrupted pick
-nothing-left a r =
-    let same : interrupted a ≡ a .asIf = rw (r .none) in
-    subst (Left (a .device .image)) (sym same) (record { header = r .header; counters = r .alike .counters })
-
--- a reset or a power cut
-pub cut-off : (a : Account) → Sound a → Sound (cut (device (a .device .image) powerOn) a)
-cut-off a sound =
-    let left = ⊎-elim {C = Left (a .device .image) (interrupted a)} (nothing-left a) (left-behind a) (sound .state) in
-    record {
-      accepted = sym (same-refusal (a .device .image) _ (left .header)) ∙ accepted-now a sound;
-      state =
-          inl
-          (record {
-            formed = formed-on (a .device .image) (accepted-now a sound);
-            none = refl;
-            header = left .header;
-            alike = record { status = refl; reply = refl; keys = refl; counters = left .counters };
-          });
-    }
-
--- a frame's job runs, or it has ended
-worked-on : (after : Device) (frame : List ℕ) (a : Account) → isBusy after ≡ true → worked after frame a ≡ record { device = after; asIf = a .asIf; frame = frame }
-unfolding pick
-worked-on after frame a e = ap (λ (o : Outcome). record { device = after; asIf = o; frame = frame }) (picked e)
-  where
-    picked : isBusy after ≡ true → pick (isBusy after) (a .asIf) (whole (a .asIf) frame) ≡ a .asIf
-    picked e = rw e
-
-worked-out :
-    (after : Device) (frame : List ℕ) (a : Account) → isBusy after ≡ false →
-    worked after frame a ≡ record { device = after; asIf = whole (a .asIf) frame; frame = frame }
-unfolding pick
-worked-out after frame a e = ap (λ (o : Outcome). record { device = after; asIf = o; frame = frame }) (picked e)
-  where
-    picked : isBusy after ≡ false → pick (isBusy after) (a .asIf) (whole (a .asIf) frame) ≡ whole (a .asIf) frame
-    picked e = rw e
+  out : (b : Bool) → ltb n (stepsOf o frame) ≡ false → Resting (whole o frame) (enabledAs b (run n (started d frame)))
+  unfolding withEnabled
+  out b e =
+      let quiet : isBusy (run n (started d frame)) ≡ false = busy-as-told ∙ e in
+      let end = same-end n (started d frame) (no-job-idle (run n (started d frame) .state) quiet) in
+      ended d frame o formed header alike (enabledAs b (run n (started d frame)))
+      (ap outcome end ∙ runs-whole d frame none (formed .long (counterOf frame))) quiet
 
 -- a command frame that finds the device idle
-module _ (a : Account) (accepted : refusal (a .asIf .image) ≡ 0) (r : Resting a) (frame : List ℕ) where
-  abbrev d : Device
-  d = a .device
-
+module _ (o : Outcome) (d : Device) (accepted : refusal (o .image) ≡ 0) (r : Resting o d) (frame : List ℕ) where
   at-start : At (kindIn (outcome d) frame) (counterOf frame) (frameKept frame) (d .image) 0 (d .image) (taken (d .state) 0x01 (jobOf (d .image) frame))
   unfolding taken jobOf allStored
   at-start =
@@ -177,79 +171,98 @@ module _ (a : Account) (accepted : refusal (a .asIf .image) ≡ 0) (r : Resting 
         stored-so-far = rw (zero-sub (hashSteps (commandOf (kindIn (outcome d) frame))));
       }
 
-  pub taken-by : (b : Bool) → eqb (statusOnArrival (d .image) (d .state .keys) frame) 0 ≡ b → Sound (worked (started d frame) frame a)
-  unfolding taken jobOf withEnabled run allStored
-  taken-by true e =
+  -- whether it passes checks 1 to 7, or fails and starts no job
+  busy-first : isBusy (started d frame) ≡ ltb 0 (stepsOf o frame)
+  unfolding run
+  busy-first = busy-as-told d frame o (r .formed) (r .none) (r .header) (r .alike) 0
+
+  on-by :
+      ltb 0 (stepsOf o frame) ≡ true → (b : Bool) → eqb (statusOnArrival (d .image) (d .state .keys) frame) 0 ≡ b →
+      Working frame 0 o (started d frame)
+  unfolding taken jobOf withEnabled run
+  on-by more true e =
       let arrives = arrived-starts (d .image) (d .state) frame e in
-      let busy : isBusy (started d frame) ≡ true = ap (λ (s : State). s .job .there) arrives in
-      subst Sound (sym (worked-on (started d frame) frame a busy))
-      (record {
-        accepted = accepted;
-        state =
-            inr
-            (record {
-              found = d;
-              steps = 0;
-              enabled = false;
-              formed = r .formed;
-              none = r .none;
-              header = r .header;
-              alike = r .alike;
-              passed = eqb-true _ 0 e;
-              now = ap (device (d .image)) (arrives ∙ sym (ap (λ (s : State). withEnabled s false) arrives));
-              at =
-                  subst (At (kindIn (outcome d) frame) (counterOf frame) (frameKept frame) (d .image) 0 (d .image)) (sym arrives) at-start;
-              left = some-steps (kindIn (outcome d) frame);
-            });
-      })
-  taken-by false e =
-      let arrives = arrived-fails (d .image) (d .state) frame e in
-      let none : isBusy (started d frame) ≡ false = ap (λ (s : State). s .job .there) arrives ∙ r .none in
-      let result : outcome (started d frame) ≡ whole (outcome d) frame =
-      ap outcome (sym (run-idle longest (started d frame) (no-job-idle (started d frame .state) none)))
-      ∙ runs-whole d frame (r .none) (r .formed .long (counterOf frame)) in
-      subst Sound (sym (worked-out (started d frame) frame a none))
-      (record { accepted = accepted-whole (a .asIf) frame accepted; state = inl (ended d frame (a .asIf) (r .formed) (r .header) (r .alike) (started d frame) result none) })
+      record {
+        found = d;
+        formed = r .formed;
+        none = r .none;
+        header = r .header;
+        alike = r .alike;
+        passed = eqb-true _ 0 e;
+        now = refl;
+        at =
+            subst (At (kindIn (outcome d) frame) (counterOf frame) (frameKept frame) (d .image) 0 (d .image)) (sym arrives) at-start;
+        left = some-steps (kindIn (outcome d) frame);
+      }
+  on-by more false e =
+      let none = ap (λ (s : State). s .job .there) (arrived-fails (d .image) (d .state) frame e) ∙ r .none in
+      absurd (never (sym none ∙ busy-first ∙ more))
 
--- the steps of a work call
-module _ (a : Account) (w : Working a) where
+  off-after : started d frame .state .enabled ≡ false
+  unfolding taken
+  off-after =
+      off-by (eqb (statusOnArrival (d .image) (d .state .keys) frame) 0) refl
+    where
+      off-by : (b : Bool) → eqb (statusOnArrival (d .image) (d .state .keys) frame) 0 ≡ b → started d frame .state .enabled ≡ false
+      off-by true e = ap (λ (s : State). s .enabled) (arrived-starts (d .image) (d .state) frame e)
+      off-by false e = ap (λ (s : State). s .enabled) (arrived-fails (d .image) (d .state) frame e)
+
+  pub taken-on : Sound (going frame 0 o false) (started d frame)
+  unfolding going withEnabled run
+  taken-on =
+      either (λ (l : Ledger). Sound l (started d frame)) (ltb 0 (stepsOf o frame)) _ _
+      (λ more.
+      record { accepted = accepted; enabled = off-after; state = (on-by more _ refl, ltb-true 0 (stepsOf o frame) more) })
+      (λ end.
+      record {
+        accepted = accepted-whole o frame accepted;
+        enabled = off-after;
+        state = out d frame o (r .formed) (r .none) (r .header) (r .alike) 0 (started d frame .state .enabled) end;
+      })
+
+-- a quota of steps
+module _ (frame : List ℕ) (done : ℕ) (o : Outcome) (d : Device) (w : Working frame done o d) (m : ℕ) where
   abbrev start : Device
-  start = started (w .found) (a .frame)
+  start = started (w .found) frame
 
-  now-after : (m : ℕ) → run m (a .device) ≡ enabledAs (w .enabled) (run (m + w .steps) start)
-  now-after m =
-      ap (run m) (w .now) ∙ run-same (w .enabled) m (run (w .steps) start) ∙ ap (enabledAs (w .enabled)) (sym (run-add m (w .steps) start))
+  pub now-after : run m d ≡ enabledAs (d .state .enabled) (run (m + done) start)
+  now-after =
+      ap (run m) (w .now) ∙ run-same (d .state .enabled) m (run done start)
+      ∙ ap (enabledAs (d .state .enabled)) (sym (run-add m done start))
 
-  pub worked-by : (m : ℕ) → refusal (a .asIf .image) ≡ 0 → (b : Bool) → isBusy (run m (a .device)) ≡ b → Sound (worked (run m (a .device)) (a .frame) a)
+  enabled-after : run m d .state .enabled ≡ d .state .enabled
   unfolding withEnabled
-  worked-by m accepted true e =
-      let on = progress (kindIn (outcome (w .found)) (a .frame)) (counterOf (a .frame)) (frameKept (a .frame)) (w .found .image) (w .steps) (a .device) (w .at) (w .left) m e in
-      subst Sound (sym (worked-on (run m (a .device)) (a .frame) a e))
-      (record {
-        accepted = accepted;
-        state =
-            inr
-            (record {
-              found = w .found;
-              steps = m + w .steps;
-              enabled = w .enabled;
-              formed = w .formed;
-              none = w .none;
-              header = w .header;
-              alike = w .alike;
-              passed = w .passed;
-              now = now-after m;
-              at = on .0;
-              left = on .1;
-            });
-      })
-  worked-by m accepted false e =
-      let none : isBusy (run (m + w .steps) start) ≡ false = sym (ap isBusy (now-after m)) ∙ e in
-      let end = same-end (m + w .steps) start (no-job-idle (run (m + w .steps) start .state) none) in
-      let result : outcome (run m (a .device)) ≡ whole (outcome (w .found)) (a .frame) =
-      ap outcome (now-after m) ∙ ap outcome end ∙ runs-whole (w .found) (a .frame) (w .none) (w .formed .long (counterOf (a .frame))) in
-      subst Sound (sym (worked-out (run m (a .device)) (a .frame) a e))
-      (record {
-        accepted = accepted-whole (a .asIf) (a .frame) accepted;
-        state = inl (ended (w .found) (a .frame) (a .asIf) (w .formed) (w .header) (w .alike) (run m (a .device)) result e);
-      })
+  enabled-after = ap (λ (x : Device). x .state .enabled) now-after
+
+  busy-after : isBusy (run m d) ≡ ltb (m + done) (stepsOf o frame)
+  unfolding withEnabled
+  busy-after = ap isBusy now-after ∙ busy-as-told (w .found) frame o (w .formed) (w .none) (w .header) (w .alike) (m + done)
+
+  pub works-on : ltb (m + done) (stepsOf o frame) ≡ true → Working frame (m + done) o (run m d)
+  works-on more =
+      let kind = kindIn (outcome (w .found)) frame in
+      let on = progress kind (counterOf frame) (frameKept frame) (w .found .image) done d (w .at) (w .left) m (busy-after ∙ more) in
+      record {
+        found = w .found;
+        formed = w .formed;
+        none = w .none;
+        header = w .header;
+        alike = w .alike;
+        passed = w .passed;
+        now = now-after ∙ ap (λ (b : Bool). enabledAs b (run (m + done) start)) (sym enabled-after);
+        at = on .0;
+        left = on .1;
+      }
+
+  works-out : ltb (m + done) (stepsOf o frame) ≡ false → Resting (whole o frame) (run m d)
+  works-out end =
+      subst (Resting (whole o frame)) (sym now-after)
+      (out (w .found) frame o (w .formed) (w .none) (w .header) (w .alike) (m + done) (d .state .enabled) end)
+
+  pub worked-on : (b : Bool) → d .state .enabled ≡ b → refusal (o .image) ≡ 0 → Sound (going frame (m + done) o b) (run m d)
+  unfolding going
+  worked-on b e accepted =
+      either (λ (l : Ledger). Sound l (run m d)) (ltb (m + done) (stepsOf o frame)) _ _
+      (λ more.
+      record { accepted = accepted; enabled = enabled-after ∙ e; state = (works-on more, ltb-true (m + done) (stepsOf o frame) more) })
+      (λ end. record { accepted = accepted-whole o frame accepted; enabled = enabled-after ∙ e; state = works-out end })

@@ -2,18 +2,16 @@
 -- Assumes nothing.
 use Prim.Native.Nat.{ℕ, _+_, _-_, _<_}
 use mathlib.Core.Path.{_≡_, refl, ap, sym, subst, _∙_}
-use mathlib.Core.Logic.{⊎-elim}
 use mathlib.Core.Bool.{Bool, true, false}
 use mathlib.Core.List.{List}
 use native.Mathlib.Omega.{arith}
-use borrow.Author.Tests.{eqb-true, eqb-false}
-use lib.Dec.{eqb}
+use borrow.Author.Tests.{eqb-true, eqb-false, ltb-true, ltb-false, lt-ltb, le-ltb}
+use lib.Dec.{eqb, ltb}
 use lib.ListN.{getD, take}
 use Rattle.words.specs.Choice.{pick}
-use Rattle.words.proofs.Choice.{same-not-new}
 use Rattle.words.specs.Table.{table}
 use Rattle.image.specs.Header.{count, slotAt}
-use Rattle.image.specs.Slot.{slotOf, isSet}
+use Rattle.image.specs.Slot.{slotOf}
 use Rattle.image.proofs.Laid.{SameHeader, then-header, back-header, same-laid}
 use Rattle.image.specs.Laid.{Laid}
 use Rattle.image.proofs.Slots.{slotBytes, root-in, counter-in}
@@ -25,14 +23,17 @@ use Rattle.plan.specs.declared.Store.{Store}
 use Rattle.plan.specs.Stores.{stores}
 use Rattle.plan.proofs.InSlot.{putAll, InSlot, made, some-made}
 use Rattle.plan.proofs.Plans.{plan-length}
+use Rattle.device.specs.Work.{Device}
 use Rattle.device.specs.Calls.{outcome}
 use Rattle.rules.specs.Whole.{frameKept, Outcome, kindIn}
 use Rattle.rules.proofs.Taken.{Facts, below-count, facts}
 use Rattle.counters.specs.Compared.{Counter, counterIn}
-use Rattle.orders.specs.Account.{Account, hasSet, setTo0, interrupted}
+use Rattle.orders.specs.Ledger.{Doing, hasSet, setTo0, interrupted}
 use Rattle.counters.proofs.Counters.{readCounter, counter-read}
+use Rattle.counters.proofs.Own.{kind-same}
 use Rattle.counters.proofs.WholeOwn.{own-after, other-after}
-use Rattle.counters.proofs.Cuts.{zeroed, Known, Cut, cut-off}
+use Rattle.counters.proofs.Alikes.{same-to}
+use Rattle.counters.proofs.Cuts.{zeroed, cutAt, Known, cut-off}
 use Rattle.orders.proofs.Sound.{Working}
 
 -- what an interrupted frame counts as, compared with the image that it leaves
@@ -40,51 +41,66 @@ pub record Left (image : List ℕ) (o : Outcome) : Type 0 where
   pub header : SameHeader image (o .image)
   pub counters : (k : ℕ) → k < count image → counterIn image k ≡ counterIn (o .image) k
 
-module _ (a : Account) (w : Working a) where
+-- the tenth store of a root key frame is its fourteenth step
+fourteenth-by : (done : ℕ) (b : Bool) → ltb 13 done ≡ b → ltb 9 (done - 4) ≡ b
+fourteenth-by done true e = lt-ltb 9 (done - 4) (omega (arith, ltb-true 13 done e))
+fourteenth-by done false e = le-ltb 9 (done - 4) (omega (arith, ltb-false 13 done e))
+
+-- the frame's own steps have set its counter, as the ledger says
+set-as-told : (kind : Kind) (done : ℕ) (p : Counter) → cutAt kind (done - hashSteps (commandOf kind)) p ≡ pick (hasSet kind done) (zeroed p) p
+unfolding pick
+set-as-told RootKeyAndCounter done p = ap (λ (b : Bool). pick b (zeroed p) p) (fourteenth-by done _ refl)
+set-as-told RootKey done p = refl
+set-as-told TemporaryKeyAndCounter done p = refl
+set-as-told TemporaryKey done p = refl
+set-as-told SessionKey done p = refl
+set-as-told Increment done p = refl
+set-as-told Request done p = refl
+
+module _ (frame : List ℕ) (done : ℕ) (o : Outcome) (d : Device) (w : Working frame done o d) where
   abbrev c : ℕ
-  c = counterOf (a .frame)
+  c = counterOf frame
 
   abbrev found : List ℕ
   found = w .found .image
 
-  abbrev image : List ℕ
-  image = a .device .image
-
   abbrev kind : Kind
-  kind = kindIn (outcome (w .found)) (a .frame)
+  kind = kindIn (outcome (w .found)) frame
 
   abbrev plan : List Store
-  plan = stores kind (frameKept (a .frame)) (a .device .state .job .kept)
+  plan = stores kind (frameKept frame) (d .state .job .kept)
 
-  abbrev done : ℕ
-  done = w .steps - hashSteps (commandOf kind)
+  -- the stores made
+  abbrev sofar : ℕ
+  sofar = done - hashSteps (commandOf kind)
 
   below : c < count found
-  below = below-count (outcome (w .found)) (a .frame) (w .passed)
+  below = below-count (outcome (w .found)) frame (w .passed)
 
-  some : InSlot (take done plan) found c
-  some = some-made kind (frameKept (a .frame)) (a .device .state .job .kept) found c (w .formed .laid) below done
+  some : InSlot (take sofar plan) found c
+  some = some-made kind (frameKept frame) (d .state .job .kept) found c (w .formed .laid) below sofar
 
-  header-found : SameHeader image found
+  pub header-found : SameHeader (d .image) found
   header-found = subst (λ (i : List ℕ). SameHeader i found) (sym (w .at .stored-so-far)) (some .header)
 
-  pub below-now : c < count image
+  pub below-now : c < count (d .image)
   below-now = rw (header-found .counters) below
 
-  laid : Laid image
-  laid = same-laid image found header-found (w .formed .laid)
+  laid : Laid (d .image)
+  laid = same-laid (d .image) found header-found (w .formed .laid)
 
-  others : (k : ℕ) → k < count found → (k ≡ c → ⊥) → counterIn image k ≡ counterIn (a .asIf .image) k
-  others k inside apart =
-      counter-read image k laid (rw (header-found .counters) inside)
+  -- the other counters are as the frame found them
+  pub others-found : (k : ℕ) → k < count found → (k ≡ c → ⊥) → counterIn (d .image) k ≡ counterIn found k
+  others-found k inside apart =
+      counter-read (d .image) k laid (rw (header-found .counters) inside)
       ∙ ap readCounter (ap (λ (i : List ℕ). slotBytes i k) (w .at .stored-so-far) ∙ some .other k apart)
-      ∙ sym (counter-read found k (w .formed .laid) inside) ∙ w .alike .counters k inside
+      ∙ sym (counter-read found k (w .formed .laid) inside)
 
   -- the bytes of the frame's own slot, as it was found
   abbrev byte : ℕ → ℕ
   byte i = getD found (slotAt found c + i) 0
 
-  known-of : (kind : Kind) → Facts kind (slotOf found c) → Known byte (frameKept (a .frame)) (a .device .state .job .kept) kind
+  known-of : (kind : Kind) → Facts kind (slotOf found c) → Known byte (frameKept frame) (d .state .job .kept) kind
   unfolding table
   known-of RootKeyAndCounter (r, s) =
       (rw (root-in found c (w .formed .laid) below) at r, rw (counter-in found c (w .formed .laid) below) at s)
@@ -95,71 +111,70 @@ module _ (a : Account) (w : Working a) where
   known-of Increment _ = tt
   known-of Request _ = tt
 
-  cut : Cut byte (frameKept (a .frame)) (a .device .state .job .kept) kind done
-  cut =
-      cut-off byte (frameKept (a .frame)) (a .device .state .job .kept) kind (known-of kind (facts (outcome (w .found)) (a .frame) (w .passed))) done
-      (λ more. omega (arith, more, w .left, plan-length kind (frameKept (a .frame)) (a .device .state .job .kept)))
+  cut-short : readCounter (putAll (take sofar plan) (slotBytes found c)) ≡ cutAt kind sofar (readCounter (slotBytes found c))
+  cut-short =
+      cut-off byte (frameKept frame) (d .state .job .kept) kind (known-of kind (facts (outcome (w .found)) frame (w .passed))) sofar
+      (λ more. omega (arith, more, w .left, plan-length kind (frameKept frame) (d .state .job .kept)))
 
-  own : counterIn image c ≡ readCounter (putAll (take done plan) (slotBytes found c))
+  -- the frame's own counter, by the stores made
+  pub own-cut : counterIn (d .image) c ≡ cutAt kind sofar (counterIn found c)
+  own-cut =
+      counter-read (d .image) c laid below-now
+      ∙ ap readCounter (ap (λ (i : List ℕ). slotBytes i c) (w .at .stored-so-far) ∙ some .own) ∙ cut-short
+      ∙ ap (cutAt kind sofar) (sym (counter-read found c (w .formed .laid) below))
+
+  pub header-as-if : SameHeader (d .image) (o .image)
+  header-as-if = then-header (d .image) found (o .image) header-found (w .header)
+
+  pub kind-as-if : kind ≡ kindIn o frame
+  kind-as-if = kind-same frame (outcome (w .found)) o (same-to frame (outcome (w .found)) o (w .header) (w .alike)) (w .passed)
+
+  others : (k : ℕ) → k < count found → (k ≡ c → ⊥) → counterIn (d .image) k ≡ counterIn (o .image) k
+  others k inside apart = others-found k inside apart ∙ w .alike .counters k inside
+
+  -- as the ledger says
+  own : counterIn (d .image) c ≡ pick (hasSet (kindIn o frame) done) (zeroed (counterIn (o .image) c)) (counterIn (o .image) c)
   own =
-      counter-read image c laid (rw (header-found .counters) below)
-      ∙ ap readCounter (ap (λ (i : List ℕ). slotBytes i c) (w .at .stored-so-far) ∙ some .own)
-
-  as-found : readCounter (slotBytes found c) ≡ counterIn (a .asIf .image) c
-  as-found = sym (counter-read found c (w .formed .laid) below) ∙ w .alike .counters c below
-
-  pub header-as-if : SameHeader image (a .asIf .image)
-  header-as-if = then-header image found (a .asIf .image) header-found (w .header)
-
-  counts-as : (b : Bool) → hasSet a ≡ b → interrupted a ≡ pick b (setTo0 (a .asIf) c) (a .asIf)
-  unfolding interrupted pick
-  counts-as b e = rw (e, w .at .there)
+      own-cut ∙ ap (cutAt kind sofar) (w .alike .counters c below) ∙ set-as-told kind done (counterIn (o .image) c)
+      ∙ ap (λ (k : Kind). pick (hasSet k done) (zeroed (counterIn (o .image) c)) (counterIn (o .image) c)) kind-as-if
 
   -- for every counter, by whether it is the frame's own
   all-counters :
-      (o : List ℕ) → counterIn image c ≡ counterIn o c → ((k : ℕ) → k < count found → (k ≡ c → ⊥) → counterIn image k ≡ counterIn o k) →
-      (k : ℕ) → k < count image → (b : Bool) → eqb k c ≡ b → counterIn image k ≡ counterIn o k
-  all-counters o same apart k inside true e = rw (eqb-true k c e) same
-  all-counters o same apart k inside false e = apart k (rw (← header-found .counters) inside) (eqb-false k c e)
+      (i : List ℕ) → counterIn (d .image) c ≡ counterIn i c →
+      ((k : ℕ) → k < count found → (k ≡ c → ⊥) → counterIn (d .image) k ≡ counterIn i k) →
+      (k : ℕ) → k < count (d .image) → (b : Bool) → eqb k c ≡ b → counterIn (d .image) k ≡ counterIn i k
+  all-counters i same apart k inside true e = rw (eqb-true k c e) same
+  all-counters i same apart k inside false e = apart k (rw (← header-found .counters) inside) (eqb-false k c e)
 
   -- it drops out
-  dropped : counterIn image c ≡ counterIn (a .asIf .image) c → Left image (interrupted a)
-  unfolding hasSet counterIn pick
-  dropped same =
-      let word : slotOf image c .«counter_state» ≡ slotOf (a .asIf .image) c .«counter_state» = ap (λ (p : Counter). p .counterState) same in
-      let stays : hasSet a ≡ false = rw word (same-not-new (isSet (slotOf (a .asIf .image) c .«counter_state»))) in
-      subst (Left image) (sym (counts-as false stays))
-      (record { header = header-as-if; counters = λ k inside. all-counters (a .asIf .image) same others k inside _ refl })
+  dropped : counterIn (d .image) c ≡ counterIn (o .image) c → Left (d .image) o
+  dropped same = record { header = header-as-if; counters = λ k inside. all-counters (o .image) same others k inside _ refl }
 
   -- or its counter is set to 0 only
-  set-only :
-      isSet (slotOf (a .asIf .image) c .«counter_state») ≡ false → counterIn image c ≡ zeroed (counterIn (a .asIf .image) c) → Left image (interrupted a)
-  unfolding hasSet setTo0 counterIn pick
-  set-only unset same =
-      let o = a .asIf .image in
-      let laid-o : Laid o = same-laid o found (back-header found o (w .header)) (w .formed .laid) in
-      let below-o : c < count o = rw (← w .header .counters) below in
-      let word : slotOf image c .«counter_state» ≡ 0 = ap (λ (p : Counter). p .counterState) same in
-      let new : hasSet a ≡ true = rw (unset, word) in
-      let frame = frameKept (a .frame) in
-      subst (Left image) (sym (counts-as true new))
-      (record {
-        header = then-header image o _ header-as-if (back-header _ o (made TemporaryKeyAndCounter frame 0 o c laid-o below-o .header));
+  set-only : counterIn (d .image) c ≡ zeroed (counterIn (o .image) c) → Left (d .image) (setTo0 o c)
+  unfolding setTo0
+  set-only same =
+      let i = o .image in
+      let laid-i : Laid i = same-laid i found (back-header found i (w .header)) (w .formed .laid) in
+      let below-i : c < count i = rw (← w .header .counters) below in
+      let kept = frameKept frame in
+      record {
+        header = then-header (d .image) i _ header-as-if (back-header _ i (made TemporaryKeyAndCounter kept 0 i c laid-i below-i .header));
         counters =
             λ k inside.
-            all-counters _ (same ∙ sym (own-after TemporaryKeyAndCounter frame 0 o c laid-o below-o))
-            (λ k inside apart. others k inside apart ∙ sym (other-after TemporaryKeyAndCounter frame 0 o c laid-o below-o k (rw (← w .header .counters) inside) apart))
+            all-counters _ (same ∙ sym (own-after TemporaryKeyAndCounter kept 0 i c laid-i below-i))
+            (λ k inside apart.
+            others k inside apart
+            ∙ sym (other-after TemporaryKeyAndCounter kept 0 i c laid-i below-i k (rw (← w .header .counters) inside) apart))
             k inside _ refl;
-      })
+      }
 
-  found-unset : isSet (slotOf found c .«counter_state») ≡ false → isSet (slotOf (a .asIf .image) c .«counter_state») ≡ false
-  unfolding counterIn
-  found-unset e = rw (← ap (λ (p : Counter). p .counterState) (w .alike .counters c below)) e
+  left-by :
+      (b : Bool) → counterIn (d .image) c ≡ pick b (zeroed (counterIn (o .image) c)) (counterIn (o .image) c) →
+      Left (d .image) (pick b (setTo0 o c) o)
+  unfolding pick
+  left-by true same = set-only same
+  left-by false same = dropped same
 
-  pub left-behind : Left image (interrupted a)
-  unfolding table
-  left-behind =
-      ⊎-elim (λ same. dropped (own ∙ same ∙ as-found))
-      (λ new.
-      set-only (found-unset (rw (counter-in found c (w .formed .laid) below) (new .0))) (own ∙ new .1 ∙ ap zeroed as-found))
-      cut
+  pub left-behind : Left (d .image) (interrupted (Doing frame done) o)
+  left-behind = left-by (hasSet (kindIn o frame) done) own

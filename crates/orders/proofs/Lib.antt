@@ -1,6 +1,7 @@
 -- Along any order of calls the device is as if the frames that found it idle had run whole.
 pub mod Sound
+pub mod SameSteps
 pub mod Interrupted
 pub mod Calls
-pub mod FirstHalf
+pub mod Ledger
 pub mod ItEnds

@@ -10,7 +10,7 @@ use Rattle.jobs.specs.declared.Command.the-variants.{IncrementCounter}
 use Rattle.frames.specs.Layout.{typeOf, counterOf}
 use Rattle.decision.specs.Signature.{signatureHolds}
 use Rattle.rules.specs.Whole.{frameKept, signature}
-use Rattle.rules.specs.Steps.{stepsOf}
+use Rattle.progress.specs.Steps.{stepsOf}
 use Rattle.device.specs.Work.{Device}
 use Rattle.device.specs.Calls.{Call, Work}
 use Rattle.orders.specs.Ledger.{Ledger, Doing}

@@ -15,7 +15,7 @@ use Rattle.state.specs.Parts.{powerOn}
 use Rattle.plan.specs.Stores.{counterStores}
 use Rattle.plan.specs.Storing.{allStored}
 use Rattle.rules.specs.Whole.{Outcome, kindIn, whole}
-use Rattle.rules.specs.Steps.{stepsOf}
+use Rattle.progress.specs.Steps.{stepsOf}
 use Rattle.device.specs.Calls.{device, Call, PowerUp, Frame, Work, outcome}
 
 -- no frame is under way, or this one is, with so many of its steps done

@@ -4,18 +4,18 @@ use Prim.Native.Nat.{ℕ, zero, suc, _+_, _-_, _≤_}
 use mathlib.Core.Path.{_≡_, refl, ap, sym, _∙_}
 use mathlib.Core.Bool.{Bool, true, false}
 use native.Mathlib.Omega.{arith}
-use borrow.Author.Tests.{ltb-true, ltb-false}
+use borrow.Author.Tests.{ltb-true, ltb-false, lt-ltb, le-ltb}
 use lib.Dec.{ltb}
-use Rattle.words.specs.Choice.{pick}
-use Rattle.words.proofs.Choice.{never, either}
+use Rattle.words.proofs.Choice.{never}
 use Rattle.jobs.specs.Jobs.{longest}
 use Rattle.jobs.proofs.Longest.{at-most}
 use Rattle.state.specs.Refusal.{isRunning, deviceRefusal}
 use Rattle.state.proofs.Running.{step-left}
 use Rattle.steps.specs.Step.{stepState}
-use Rattle.device.specs.Work.{Device, stepped, run, within, stepsLeft, stepsDone}
+use Rattle.device.specs.Work.{Device, stepped, run, stepsLeft, stepsDone}
 use Rattle.device.specs.Calls.{Work, After, called}
 use Rattle.device.proofs.AfterCalls.{work-accepted}
+use Rattle.device.proofs.Left.{left-one, left-none}
 use Rattle.steps.proofs.Less.{rest, step-less, bound-runs}
 use Rattle.progress.proofs.Runs.{stepped-idle, run-idle, run-add}
 
@@ -54,48 +54,44 @@ same-end n d e =
     let e₁ : longest + n ≡ n + longest = omega arith in
     sym (idle-after longest n d e) ∙ rw e₁ (idle-after n longest d (longest-is-enough d))
 
--- the steps left lead to the end of the job
-run-first : (n : ℕ) (d : Device) → run (suc n) d ≡ run n (stepped d)
+-- the steps left: none where no job runs, and one less after each step
+runs-left-by : (d : Device) (b : Bool) → isRunning (d .state) ≡ b → isRunning (d .state) ≡ ltb 0 (stepsLeft d)
+runs-left-by d true e = e ∙ sym (lt-ltb 0 (stepsLeft d) (omega (arith, left-one d e)))
+runs-left-by d false e = e ∙ sym (le-ltb 0 (stepsLeft d) (omega (arith, left-none d e)))
+
+left-step-by : (d : Device) (b : Bool) → isRunning (d .state) ≡ b → stepsLeft (stepped d) ≡ stepsLeft d - 1
+left-step-by d true e = omega (arith, left-one d e)
+left-step-by d false e = ap stepsLeft (stepped-idle d e) ∙ omega (arith, left-none d e)
+
+pub left-run : (n : ℕ) (d : Device) → stepsLeft (run n d) ≡ stepsLeft d - n
 unfolding run
-run-first zero d = refl
-run-first (suc n) d = ap stepped (run-first n d)
+left-run zero d = omega arith
+left-run (suc n) d = omega (arith, left-run n d, left-step-by (run n d) _ refl)
 
-within-most : (n : ℕ) (d : Device) → within n d ≤ n
-unfolding within
-within-most zero d = omega arith
-within-most (suc n) d =
-    let most = within-most n (stepped d) in
-    either (λ (m : ℕ). m ≤ suc n) (isRunning (d .state)) _ 0 (λ _. omega (arith, most)) (λ _. omega arith)
+-- so a job runs as long as fewer are done
+below-by : (n left : ℕ) (b : Bool) → ltb n left ≡ b → ltb 0 (left - n) ≡ ltb n left
+below-by n left true e = lt-ltb 0 (left - n) (omega (arith, ltb-true n left e)) ∙ sym e
+below-by n left false e = le-ltb 0 (left - n) (omega (arith, ltb-false n left e)) ∙ sym e
 
--- where the job still runs after the steps that were counted, counting stopped for want of more
-within-by :
-    (n : ℕ) (d : Device) → (isRunning (run (within n (stepped d)) (stepped d) .state) ≡ true → within n (stepped d) ≡ n) →
-    (b : Bool) → isRunning (d .state) ≡ b → isRunning (run (pick b (suc (within n (stepped d))) 0) d .state) ≡ true →
-    pick b (suc (within n (stepped d))) 0 ≡ suc n
-unfolding pick run
-within-by n d rest true p e =
-    ap suc (rest (sym (ap (λ (x : Device). isRunning (x .state)) (run-first (within n (stepped d)) d)) ∙ e))
-within-by n d rest false p e = absurd (never (sym p ∙ e))
+pub runs-below : (n : ℕ) (d : Device) → isRunning (run n d .state) ≡ ltb n (stepsLeft d)
+runs-below n d = runs-left-by (run n d) _ refl ∙ ap (ltb 0) (left-run n d) ∙ below-by n (stepsLeft d) _ refl
 
-within-ends : (n : ℕ) (d : Device) → isRunning (run (within n d) d .state) ≡ true → within n d ≡ n
-unfolding within
-within-ends zero d e = refl
-within-ends (suc n) d e = within-by n d (within-ends n (stepped d)) (isRunning (d .state)) refl e
+-- and the number of steps for which a job runs is that of the steps left
+pub left-is : (d : Device) (t : ℕ) → ((n : ℕ) → isRunning (run n d .state) ≡ ltb n t) → stepsLeft d ≡ t
+left-is d t runs =
+    let left = stepsLeft d in
+    let over = ltb-false left t (sym (runs left) ∙ runs-below left d ∙ le-ltb left left (omega arith)) in
+    let under = ltb-false t left (sym (runs-below t d) ∙ runs t ∙ le-ltb t t (omega arith)) in
+    omega (arith, over, under)
 
-left-ends-by : (d : Device) (b : Bool) → isRunning (run (stepsLeft d) d .state) ≡ b → isRunning (run (stepsLeft d) d .state) ≡ false
-unfolding stepsLeft
-left-ends-by d true e =
-    absurd (never (sym (longest-is-enough d) ∙ ap (λ (n : ℕ). isRunning (run n d .state)) (sym (within-ends longest d e)) ∙ e))
-left-ends-by d false e = e
-
-pub left-ends : (d : Device) → isRunning (run (stepsLeft d) d .state) ≡ false
-left-ends d = left-ends-by d _ refl
+left-ends : (d : Device) → isRunning (run (stepsLeft d) d .state) ≡ false
+left-ends d = runs-below (stepsLeft d) d ∙ le-ltb (stepsLeft d) (stepsLeft d) (omega arith)
 
 -- so a work call with a quota of the longest job or more leaves no job running
 pub work-ends : (quota : ℕ) (d : Device) → longest ≤ quota → isRunning (run (stepsDone quota d) d .state) ≡ false
-unfolding stepsLeft
 work-ends quota d h =
-    let all : stepsDone quota d ≡ stepsLeft d = omega (arith, within-most longest d) in
+    let most = ltb-false longest (stepsLeft d) (sym (runs-below longest d) ∙ longest-is-enough d) in
+    let all : stepsDone quota d ≡ stepsLeft d = omega (arith, h, most) in
     rw all (left-ends d)
 
 -- the steps done come to the quota: past the end of a job, steps change nothing

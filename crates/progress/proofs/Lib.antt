@@ -7,4 +7,7 @@ pub mod Enabled
 pub mod Ends
 pub mod Storing
 pub mod Ended
+pub mod Checked
+pub mod Going
+pub mod Steps
 pub mod RunsWhole

@@ -5,17 +5,20 @@ use mathlib.Core.Path.{_≡_, refl, ap, _∙_}
 use mathlib.Core.Bool.{true, false}
 use mathlib.Core.List.{List, _++_}
 use native.Mathlib.Omega.{arith}
-use lib.ListN.{getD, set}
+use lib.ListN.{getD}
 use Rattle.words.specs.Choice.{pick}
 use Rattle.words.specs.Words.{bytesOf, bytesOfAll}
 use Rattle.words.specs.Table.{field}
 use Rattle.hmac.proofs.FourBlocks.{second, fourth}
-use Rattle.jobs.specs.Jobs.{lengthOf, commandOf, hashSteps}
+use Rattle.jobs.specs.Jobs.{lengthOf, commandOf, signatureSteps, hashSteps}
+use Rattle.jobs.proofs.Longest.{some-blocks}
+use Rattle.jobs.specs.declared.Command.{Command}
+use Rattle.jobs.specs.declared.Command.the-variants.{WriteRootKey, UpdateSessionKey, IncrementCounter, RequestCounter}
 use Rattle.jobs.specs.declared.Kind.{Kind}
-use Rattle.jobs.specs.declared.Kind.the-variants.{SessionKey, Request}
+use Rattle.jobs.specs.declared.Kind.the-variants.{Request}
 use Rattle.state.specs.declared.Key.{Key}
 use Rattle.state.specs.declared.State.{State}
-use Rattle.state.specs.Parts.{noKey, noReply, posted}
+use Rattle.state.specs.Parts.{noKey}
 use Rattle.state.specs.Refusal.{isRunning}
 use Rattle.plan.specs.Stores.{stores}
 use Rattle.plan.specs.Storing.{allStored}
@@ -32,22 +35,35 @@ use Rattle.progress.proofs.Hashing.{busy}
 use Rattle.progress.proofs.Stores.{all-made}
 use Rattle.rules.specs.Whole.{Outcome}
 
-module _ (image : List ℕ) (keys : List Key) (counter : ℕ) (frame root chain made inner : List ℕ) (kept : ℕ) (n : ℕ) where
-  abbrev checked : Kind → ℕ → Device
-  checked kind step = device image (advanced (busy kind keys counter frame root step chain made inner kept))
+-- what is seen of a job that ends well does not go by its step number
+ends : (command : Command) (image : List ℕ) (s : State) (step : ℕ) →
+    outcome (device image (finishedBy command (withStep s step))) ≡ outcome (device image (finishedBy command s))
+unfolding withStep withKey withReply
+ends WriteRootKey image s step = refl
+ends UpdateSessionKey image s step = refl
+ends IncrementCounter image s step = refl
+ends RequestCounter image s step = refl
 
-  -- a command that ends with its stores: n steps, if the job has no more after the four of its check
+module _ (image : List ℕ) (keys : List Key) (counter : ℕ) (frame root chain made inner : List ℕ) (kept : ℕ) (n : ℕ) where
+  -- a job in the last step of its signature check
+  abbrev last : Kind → State
+  last kind = busy kind keys counter frame root (signatureSteps (commandOf kind) - 1) chain made inner kept
+
+  abbrev checked : Kind → Device
+  checked kind = device image (advanced (last kind))
+
+  -- a command that ends with its stores, or with its check where it has none: n steps, if the job has no more after those of its check
   pub stored-all :
-      (kind : Kind) → hashSteps (commandOf kind) ≡ 4 → ((s : State) → finishedBy (commandOf kind) s ≡ posted s 0x80) →
-      lengthOf kind ≤ n + 4 →
-      outcome (run n (checked kind 3)) ≡
-      record { status = 0x80; keys = keys; reply = noReply; image = allStored (stores kind frame kept) image counter }
+      (kind : Kind) → hashSteps (commandOf kind) ≡ signatureSteps (commandOf kind) → lengthOf kind ≤ n + signatureSteps (commandOf kind) →
+      outcome (run n (checked kind)) ≡
+      outcome (device (allStored (stores kind frame kept) image counter) (finishedBy (commandOf kind) (last kind)))
   unfolding withStep
-  stored-all kind blocks ends enough =
+  stored-all kind blocks enough =
+      let some = some-blocks (commandOf kind) in
       ap outcome
-      (all-made (busy kind keys counter frame root 3 chain made inner kept) 3 refl blocks image n
+      (all-made (last kind) (signatureSteps (commandOf kind) - 1) refl (omega (arith, blocks, some)) image n
       (omega (arith, enough, blocks, plan-length kind frame kept)))
-      ∙ ap (λ (s : State). outcome (device (allStored (stores kind frame kept) image counter) s)) (ends _)
+      ∙ ends (commandOf kind) (allStored (stores kind frame kept) image counter) (last kind) _
 
   -- a request is answered: four blocks more, those of its reply
   abbrev answered : Outcome
@@ -65,28 +81,16 @@ module _ (image : List ℕ) (keys : List Key) (counter : ℕ) (frame root chain 
         image = image;
       }
 
-  request-done : outcome (run 4 (checked Request 3)) ≡ answered
+  request-done : outcome (run 4 (checked Request)) ≡ answered
   unfolding run stepped stepState stepImage isRunning pick hashStep hashed withBlock blockDone quarterOf innerAfter advanced withStep withReply second fourth
   request-done = refl
 
-  request-idle : isRunning (run 4 (checked Request 3) .state) ≡ false
+  request-idle : isRunning (run 4 (checked Request) .state) ≡ false
   unfolding run stepped stepState stepImage isRunning pick hashStep hashed withBlock blockDone quarterOf innerAfter advanced withStep withReply second fourth
   request-idle = refl
 
-  pub stored-request : lengthOf Request ≤ n + 4 → outcome (run n (checked Request 3)) ≡ answered
+  pub stored-request : lengthOf Request ≤ n + 4 → outcome (run n (checked Request)) ≡ answered
   stored-request enough =
       let more : n ≡ (n - 4) + 4 = omega (arith, enough) in
-      ap (λ (k : ℕ). outcome (run k (checked Request 3))) more
-      ∙ ap outcome (run-add (n - 4) 4 (checked Request 3) ∙ run-idle (n - 4) (run 4 (checked Request 3)) request-idle) ∙ request-done
-
-  -- a session key job ends with its check
-  pub stored-session :
-      outcome (run n (checked SessionKey 7)) ≡
-      record {
-        status = 0x80;
-        keys = set keys counter (record { there = true; bytes = made });
-        reply = noReply;
-        image = image;
-      }
-  unfolding isRunning pick advanced withKey
-  stored-session = ap outcome (run-idle n (checked SessionKey 7) refl)
+      ap (λ (k : ℕ). outcome (run k (checked Request))) more
+      ∙ ap outcome (run-add (n - 4) 4 (checked Request) ∙ run-idle (n - 4) (run 4 (checked Request)) request-idle) ∙ request-done

@@ -1,3 +1,2 @@
--- The whole-frame rules, a page; and how many steps a frame takes.
+-- The whole-frame rules, a page.
 pub mod Whole
-pub mod Steps

@@ -1,5 +1,5 @@
--- The laws of `table`: its length, that a buffer filled place by place from the front becomes the table, and that a list is the
--- table of its elements. Assumes nothing.
+-- The laws of `table`: its length, that a buffer filled place by place from the front becomes the table, that of one element at every
+-- place, and that a list is the table of its elements. Assumes nothing.
 use mathlib.Core.Path.{_≡_, refl, ap, sym, _∙_}
 use mathlib.Core.List.{List, [], _∷_, _++_, append-nil}
 use Prim.Native.Nat.{ℕ, zero, suc, _+_, _≤_, _<_}
@@ -7,7 +7,7 @@ use mathlib.Core.Logic.{⊎-elim}
 use native.Mathlib.Nat.{not-suc-le-zero, le-of-suc-le-suc, eq-or-lt-of-le}
 use native.Mathlib.Numerals.{add-one}
 use native.Mathlib.Omega.{arith}
-use lib.ListN.{length, getD, take, drop, set, length-append, drop-of-length-le, List·getD-append}
+use lib.ListN.{length, getD, take, drop, set, replicate, length-append, drop-of-length-le, List·getD-append}
 use lib.Seq.{take-suc, getD-at}
 use Rattle.words.specs.Table.{table}
 use Rattle.words.proofs.Filling.{fill-more}
@@ -31,6 +31,16 @@ pub table-same : (f g : ℕ → ℕ) (n : ℕ) → ((i : ℕ) → i < n → f i 
 unfolding table
 table-same f g zero e = refl
 table-same f g (suc n) e = rw (table-same f g n (λ i h. e i (omega arith)), e n (omega arith))
+
+-- the same element at every place
+replicate-more : (a n : ℕ) → replicate n a ++ (a ∷ []) ≡ a ∷ replicate n a
+replicate-more a zero = refl
+replicate-more a (suc n) = ap (λ (s : List ℕ). a ∷ s) (replicate-more a n)
+
+pub table-replicate : (a n : ℕ) → table (λ i. a) n ≡ replicate n a
+unfolding table
+table-replicate a zero = refl
+table-replicate a (suc n) = ap (λ (s : List ℕ). s ++ (a ∷ [])) (table-replicate a n) ∙ replicate-more a n
 
 -- a list's own elements
 pub table-take : (s : List ℕ) (n : ℕ) → n ≤ length s → table (λ i. getD s i 0) n ≡ take n s

@@ -1,0 +1,2 @@
+-- How many steps a frame takes.
+pub mod Steps
