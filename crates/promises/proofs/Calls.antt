@@ -33,9 +33,9 @@ use Rattle.progress.proofs.Ends.{same-end}
 use Rattle.progress.proofs.RunsWhole.{runs-whole}
 use Rattle.promises.specs.Compared.{Alike}
 use Rattle.promises.specs.Account.{Account, goneBy, worked, interrupted, cut}
-use Rattle.promises.specs.Formed.{Formed}
-use Rattle.promises.proofs.WholeOwn.{whole-kept}
-use Rattle.promises.proofs.Alikes.{whole-formed, alike-whole}
+use Rattle.rules.specs.Formed.{Formed}
+use Rattle.rules.proofs.Kept.{whole-kept, whole-formed}
+use Rattle.promises.proofs.Alikes.{alike-whole}
 use Rattle.promises.proofs.Sound.{Resting, started, Working, Sound}
 use Rattle.promises.proofs.Interrupted.{Left, header-as-if, left-behind}
 

@@ -22,7 +22,7 @@ use Rattle.promises.specs.Orders.{allCalled}
 use Rattle.promises.specs.Account.{account, begun}
 use Rattle.promises.specs.Reordering.{ownFrames, allWhole, ownStatuses, eachRun, Commands}
 use Rattle.promises.specs.Examples.{Example, Ready, Given, script, Seen}
-use Rattle.promises.specs.Formed.{Formed}
+use Rattle.rules.specs.Formed.{Formed}
 use Rattle.promises.proofs.FirstHalf as FirstHalf
 use Rattle.promises.proofs.FirstHalf.{all-sound, start-sound}
 use Rattle.promises.proofs.SecondHalf.{same-counter, same-session, same-statuses}

@@ -21,7 +21,7 @@ use Rattle.promises.specs.Compared.{counterIn}
 use Rattle.promises.specs.Account.{Account, goneBy, worked, framed, accounted, account}
 use Rattle.promises.specs.Reordering.{ownFrames, allWhole, eachRun, Commands}
 use Rattle.promises.proofs.Sound.{Resting, Sound}
-use Rattle.promises.specs.Formed.{Formed}
+use Rattle.rules.specs.Formed.{Formed}
 use Rattle.promises.proofs.Calls.{formed-as-if}
 use Rattle.promises.proofs.FirstHalf.{next, all-sound, at-rest, same-device}
 use Rattle.promises.proofs.ItEnds.{idle-after-work}

@@ -16,7 +16,7 @@ use Rattle.progress.proofs.Jobs.{At}
 use Rattle.progress.proofs.Enabled.{enabledAs}
 use Rattle.promises.specs.Compared.{Alike}
 use Rattle.promises.specs.Account.{Account}
-use Rattle.promises.specs.Formed.{Formed}
+use Rattle.rules.specs.Formed.{Formed}
 
 -- no job: the device is as if
 pub record Resting (a : Account) : Type 0 where

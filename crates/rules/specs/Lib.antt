@@ -1,3 +1,4 @@
--- The whole-frame rules, a page; and how many steps a frame takes.
+-- The whole-frame rules, a page; how many steps a frame takes; and what frames start from.
 pub mod Whole
 pub mod Steps
+pub mod Formed
