@@ -2,4 +2,5 @@
 pub mod Fields
 pub mod Arrives
 pub mod Passes
+pub mod Carried
 pub mod Replies
