@@ -1,27 +1,24 @@
 -- A frame that the host builds with the device's keys passes all ten checks, so it is carried out: on arrival by its form and its
 -- counter, then by its signature, and of type 02 by the value that it names. Assumes nothing.
-use Prim.Native.Nat.{ℕ, _<_}
+use Prim.Native.Nat.{ℕ}
 use mathlib.Core.Path.{_≡_, refl, ap, sym, _∙_}
-use mathlib.Core.Bool.{Bool, true, false}
+use mathlib.Core.Bool.{Bool}
 use mathlib.Core.List.{List, _++_}
 use native.Mathlib.Omega.{arith}
 use borrow.Author.Tests.{eq-eqb, ne-eqb, le-leb}
-use lib.ListN.{length, getD}
+use lib.ListN.{length}
 use Rattle.words.specs.Choice.{pick}
 use Rattle.words.specs.Rows.{firstOf}
-use Rattle.words.specs.Table.{field}
 use Rattle.words.specs.Words.{bytesOf, wordAt, wordOr0}
 use Rattle.words.proofs.Choice.{either}
 use Rattle.words.proofs.Fields.{field-word}
 use Rattle.words.proofs.Table.{length-table}
-use Rattle.image.specs.Slot.{slotOf, rootKey}
+use Rattle.image.specs.Slot.{slotOf}
 use Rattle.jobs.specs.Jobs.{commandOf, rootKind, kindOf}
 use Rattle.jobs.specs.declared.Command.{Command}
 use Rattle.jobs.specs.declared.Command.the-variants.{WriteRootKey, UpdateSessionKey, IncrementCounter, RequestCounter}
 use Rattle.jobs.specs.declared.Kind.{Kind}
-use Rattle.frames.specs.Layout.{counterOf}
 use Rattle.state.specs.declared.Key.{Key}
-use Rattle.state.specs.Parts.{noKey}
 use Rattle.decision.specs.Decision.{decision}
 use Rattle.rules.specs.Whole.{Outcome, frameKept, kindIn, valueIn, keyIn, lastStatus, allChecks, carriedOut, whole}
 use Rattle.rules.proofs.TenChecks.{all-checks}
@@ -30,7 +27,7 @@ use Rattle.exchange.specs.Passing.{Passes}
 use Rattle.exchange.specs.Built.{Built, RootKeyBuilt, SessionKeyBuilt, IncrementBuilt, RequestBuilt, frameOf, Sized, sessionOf, InOrder, Awaited, Agreed}
 use Rattle.exchange.proofs.Fields.{data-sent}
 use Rattle.exchange.proofs.Passes.{root-key-passes, session-key-passes, increment-passes, request-passes}
-use Rattle.exchange.proofs.Arrives.{typeBuilt, Form, built-form, built-arrives}
+use Rattle.exchange.proofs.Arrives.{built-form, built-arrives}
 
 -- the command of a built frame
 abbrev commandBuilt : Built → Command

@@ -3,4 +3,5 @@ pub mod Fields
 pub mod Arrives
 pub mod Passes
 pub mod Carried
+pub mod Agreed
 pub mod Replies
