@@ -27,6 +27,7 @@ use Rattle.plan.specs.Storing.{allStored}
 use Rattle.plan.proofs.RootKeys.{keyBrought, paired, root-key-leaves}
 use Rattle.rules.specs.Formed.{Formed}
 use Rattle.rules.specs.Whole.{Outcome, frameKept, isTemporary, kindIn, valueIn, keptAfter, imageAfter, carriedOut, whole}
+use Rattle.rules.specs.Whole.{newSessionKey as derived}
 use Rattle.rules.proofs.Kept.{whole-kept}
 use Rattle.host.specs.Frames.{signedBy, newSessionKey, rootKeyFrame, sessionKeyFrame}
 use Rattle.exchange.specs.Built.{RootKeyBuilt, SessionKeyBuilt, InOrder, RootUnset, CounterSet, Paired, InSession}
