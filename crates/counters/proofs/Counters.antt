@@ -1,11 +1,11 @@
 -- What is compared of a counter, as its slot's 48 bytes show it, before and after the stores of a job. Assumes nothing.
-use Prim.Native.Nat.{ℕ, _+_, _*_, _/_, _%_, _<_}
+use Prim.Native.Nat.{ℕ, _/_, _%_, _<_}
 use mathlib.Core.Path.{_≡_, refl}
 use mathlib.Core.List.{List}
 use lib.ListN.{replicate}
 use Rattle.words.specs.Choice.{pick}
 use Rattle.words.specs.Table.{table, spread, field}
-use Rattle.words.specs.Words.{wordOf, wordAt, wordOr0, bytesOfAll, putWord}
+use Rattle.words.specs.Words.{wordOf, wordAt, putWord}
 use Rattle.image.specs.Header.{count}
 use Rattle.image.specs.Slot.{isSet, rootKey}
 use Rattle.image.specs.Laid.{Laid}
@@ -14,6 +14,7 @@ use Rattle.jobs.specs.declared.Kind.{Kind}
 use Rattle.jobs.specs.declared.Kind.the-variants.{RootKeyAndCounter, RootKey, SessionKey, Increment, Request, TemporaryKeyAndCounter, TemporaryKey}
 use Rattle.plan.specs.Stores.{keyStores, stores}
 use Rattle.plan.proofs.InSlot.{putAll}
+use Rattle.plan.proofs.RootKeys.{keyBrought}
 use Rattle.counters.specs.Compared.{Counter, valueShown, counterIn}
 
 -- read from a slot's bytes
@@ -30,10 +31,6 @@ pub counter-read : (image : List ℕ) (c : ℕ) → Laid image → c < count ima
 unfolding counterIn readCounter rootKey
 counter-read image c laid below =
     rw (root-in image c laid below, counter-in image c laid below, value-in image c laid below, key-in image c)
-
--- the key that a frame brings, as its stores leave it
-unfoldable pub keyBrought : List ℕ → List ℕ
-keyBrought frame = bytesOfAll (table (λ i. wordOr0 frame (4 + 4 * i)) 8)
 
 -- a word as it is read back
 abbrev pub readBack : ℕ → ℕ

@@ -19,9 +19,9 @@ use Rattle.rules.specs.Whole.{Outcome, failedWith, whole}
 use Rattle.counters.specs.Compared.{counterIn}
 use Rattle.counters.specs.Reordering.{belongs, ownFrames, allWhole, ownStatuses}
 use Rattle.counters.proofs.Own.{SameTo}
-use Rattle.counters.specs.Formed.{Formed}
-use Rattle.counters.proofs.WholeOwn.{Kept, whole-kept, whole-same}
-use Rattle.counters.proofs.Alikes.{whole-formed}
+use Rattle.rules.specs.Formed.{Formed}
+use Rattle.rules.proofs.Kept.{Kept, whole-kept, whole-formed}
+use Rattle.counters.proofs.WholeOwn.{others-kept, whole-same}
 
 -- two outcomes that are the same to a counter: what is compared of it, and its session key
 pub record SameOf (c : ℕ) (o p : Outcome) : Type 0 where
@@ -69,7 +69,7 @@ module _ (c : ℕ) (frame : List ℕ) (o p : Outcome) (same : SameOf c o p) wher
         counter =
             λ below.
             let inside : c < count (o .image) = rw (← kept-o .header .counters) below in
-            kept-o .counters c inside (λ e. apart (sym e)) ∙ same .counter inside;
+            others-kept o frame (same .formed-o .laid) c inside (λ e. apart (sym e)) ∙ same .counter inside;
         session = kept-o .sessions c (λ e. apart (sym e)) ∙ same .session;
       }
 

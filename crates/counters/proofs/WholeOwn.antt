@@ -6,12 +6,12 @@ use mathlib.Core.List.{List}
 use native.Mathlib.Omega.{arith}
 use borrow.Author.Tests.{eqb-true}
 use lib.Dec.{eqb}
-use lib.ListN.{length, getD, set, length-set}
-use lib.Seq.{getD-set-same, getD-set-other}
+use lib.ListN.{length, getD, set}
+use lib.Seq.{getD-set-same}
 use Rattle.words.specs.Choice.{pick}
 use Rattle.image.specs.Header.{count, slotAt}
 use Rattle.image.specs.Slot.{slotOf}
-use Rattle.image.proofs.Laid.{SameHeader, same-header, same-laid}
+use Rattle.image.proofs.Laid.{same-laid}
 use Rattle.image.specs.Laid.{Laid}
 use Rattle.jobs.specs.Jobs.{commandOf}
 use Rattle.jobs.specs.declared.Kind.{Kind}
@@ -25,7 +25,7 @@ use Rattle.plan.proofs.InSlot.{InSlot, made}
 use Rattle.rules.specs.Whole.{keptAfter, frameKept, statusOnArrival, Outcome, kindIn, valueIn, allChecks, failedWith, keysAfter, replyAfter, imageAfter, carriedOut, whole}
 use Rattle.rules.proofs.TenChecks.{all-pass}
 use Rattle.rules.proofs.Taken.{Facts, below-count, facts, one-end}
-use Rattle.counters.specs.Formed.{Formed}
+use Rattle.rules.specs.Formed.{Formed}
 use Rattle.counters.specs.Compared.{counterIn}
 use Rattle.counters.proofs.Counters.{readCounter, counter-read, counterAfter, after-stores}
 use Rattle.counters.proofs.Own.{SameTo, key-there-same, kind-same, new-key-same, value-same, checks-same}
@@ -52,48 +52,20 @@ module _ (kind : Kind) (frame : List ℕ) (kept : ℕ) (image : List ℕ) (c : �
       counter-read after k still-laid (rw (in-slot .header .counters) inside) ∙ ap readCounter (in-slot .other k apart)
       ∙ sym (counter-read image k laid inside)
 
--- what a frame run whole leaves alone
-pub record Kept (d : Outcome) (frame : List ℕ) (o : Outcome) : Type 0 where
-  pub header : SameHeader (o .image) (d .image)
-  pub size : length (o .keys) ≡ length (d .keys)
-  pub counters : (k : ℕ) → k < count (d .image) → (k ≡ counterOf frame → ⊥) → counterIn (o .image) k ≡ counterIn (d .image) k
-  pub sessions : (k : ℕ) → (k ≡ counterOf frame → ⊥) → getD (o .keys) k noKey ≡ getD (d .keys) k noKey
+-- a frame run whole leaves the other counters
+module _ (d : Outcome) (frame : List ℕ) (laid : Laid (d .image)) (k : ℕ) (inside : k < count (d .image)) (apart : k ≡ counterOf frame → ⊥) where
+  abbrev Same : Outcome → Type 0
+  Same o = counterIn (o .image) k ≡ counterIn (d .image) k
 
-module _ (d : Outcome) (frame : List ℕ) (laid : Laid (d .image)) where
-  abbrev c : ℕ
-  c = counterOf frame
-
-  kept-keys :
-      (kind : Kind) →
-      (length (keysAfter (commandOf kind) d frame) ≡ length (d .keys))
-      × ((k : ℕ) → (k ≡ c → ⊥) → getD (keysAfter (commandOf kind) d frame) k noKey ≡ getD (d .keys) k noKey)
-  kept-keys RootKeyAndCounter = (refl, λ k apart. refl)
-  kept-keys RootKey = (refl, λ k apart. refl)
-  kept-keys TemporaryKeyAndCounter = (refl, λ k apart. refl)
-  kept-keys TemporaryKey = (refl, λ k apart. refl)
-  kept-keys SessionKey = (length-set (d .keys) c _, λ k apart. getD-set-other (d .keys) c k _ noKey apart)
-  kept-keys Increment = (refl, λ k apart. refl)
-  kept-keys Request = (refl, λ k apart. refl)
-
-  abbrev kept : ℕ
-  kept = keptAfter (commandOf (kindIn d frame)) 0 (valueIn d frame)
-
-  carried-kept : statusOnArrival (d .image) (d .keys) frame ≡ 0 → Kept d frame (carriedOut (kindIn d frame) d frame)
-  unfolding carriedOut
-  carried-kept passed =
-      let below = below-count d frame passed in
-      record {
-        header = made (kindIn d frame) (frameKept frame) kept (d .image) c laid below .header;
-        size = kept-keys (kindIn d frame) .0;
-        counters = other-after (kindIn d frame) (frameKept frame) kept (d .image) c laid below;
-        sessions = kept-keys (kindIn d frame) .1;
-      }
-
-  pub whole-kept : Kept d frame (whole d frame)
-  unfolding failedWith
-  whole-kept =
-      one-end (Kept d frame) d frame carried-kept
-      (λ status. record { header = same-header (d .image); size = refl; counters = λ k inside apart. refl; sessions = λ k apart. refl })
+  pub others-kept : Same (whole d frame)
+  unfolding carriedOut failedWith
+  others-kept =
+      let kind = kindIn d frame in
+      one-end Same d frame
+      (λ passed.
+      other-after kind (frameKept frame) (keptAfter (commandOf kind) 0 (valueIn d frame)) (d .image) (counterOf frame) laid
+      (below-count d frame passed) k inside apart)
+      (λ status. refl)
 
 -- two devices that are the same to a frame come to the same by it
 pub record SameBy (frame : List ℕ) (d e : Outcome) (o p : Outcome) : Type 0 where

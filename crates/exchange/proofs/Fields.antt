@@ -10,12 +10,19 @@ use Rattle.hmac.specs.Hmac.{HMAC}
 use Rattle.hmac.proofs.Lengths.{length-HMAC}
 use Rattle.frames.specs.Layout.{counterOf}
 use Rattle.rules.specs.Whole.{frameKept}
-use Rattle.host.specs.Frames.{head, signedBy}
+use Rattle.host.specs.Frames.{head, signedBy, rootKeyFrame}
 
 -- the first 64 bytes are kept as they are
 pub kept-field : (at n : ℕ) (frame : List ℕ) → at + n ≤ 64 → field at n (frameKept frame) ≡ field at n frame
 kept-field at n frame h =
     field-field 0 64 at n frame h ∙ ap (λ (k : ℕ). field k n frame) (omega arith)
+
+-- the key of a root key frame
+pub root-key-sent : (counter : ℕ) (key : List ℕ) → length key ≡ 32 → field 4 32 (frameKept (rootKeyFrame counter key)) ≡ key
+unfolding rootKeyFrame
+root-key-sent counter key size =
+    kept-field 4 32 (rootKeyFrame counter key) (omega arith)
+    ∙ field-between 4 32 (head 0 counter) key (field 4 28 (HMAC key (head 0 counter))) refl size
 
 -- a signed frame: head, data, and the signature of both
 module _ (key : List ℕ) (type counter : ℕ) («data» : List ℕ) (n : ℕ) (size : length «data» ≡ n) (fits : n ≤ 28) where

@@ -18,7 +18,7 @@ use Rattle.decision.specs.Signature.{signatureHolds}
 use Rattle.rules.specs.Whole.{Outcome, frameKept, keyIn}
 use Rattle.host.specs.Frames.{head, signedBy, newSessionKey, rootKeyFrame, sessionKeyFrame, incrementFrame, requestFrame}
 use Rattle.exchange.specs.Passing.{Passes}
-use Rattle.exchange.proofs.Fields.{kept-field, counter-sent, front-sent, data-sent, signature-sent}
+use Rattle.exchange.proofs.Fields.{kept-field, root-key-sent, counter-sent, front-sent, data-sent, signature-sent}
 
 -- type 00, whatever the device
 pub root-key-passes : (o : Outcome) (counter : ℕ) (key : List ℕ) → length key ≡ 32 → Passes WriteRootKey o (rootKeyFrame counter key)
@@ -26,14 +26,12 @@ unfolding signatureHolds rootKeyFrame
 root-key-passes o counter key size =
     let frame = rootKeyFrame counter key in
     let digest = HMAC key (head 0 counter) in
-    let key-sent : field 4 32 (frameKept frame) ≡ key =
-    kept-field 4 32 frame (omega arith) ∙ field-between 4 32 (head 0 counter) key (field 4 28 digest) refl size in
     let front : field 0 4 (frameKept frame) ≡ head 0 counter =
     kept-field 0 4 frame (omega arith) ∙ field-between 0 4 [] (head 0 counter) (key ++ field 4 28 digest) refl refl in
     let signed : field 36 28 (frameKept frame) ≡ field 4 28 digest =
     kept-field 36 28 frame (omega arith)
     ∙ field-behind 36 28 (head 0 counter ++ key) (field 4 28 digest) (omega (arith, size)) (length-table _ 28) in
-    rw (key-sent, front, signed, same-self (field 4 28 digest))
+    rw (root-key-sent counter key size, front, signed, same-self (field 4 28 digest))
 
 -- types 01 to 03: the signature that is sent is that of what stands before it
 same-sent :

@@ -17,6 +17,7 @@ use Rattle.words.proofs.Table.{length-table}
 use Rattle.words.proofs.Fields.{field-word, field-field}
 use Rattle.words.proofs.Puts.{Apart, field-put-in, field-put-out, word-same, word-apart}
 use Rattle.image.specs.Header.{count, slotSize, slotAt}
+use Rattle.image.specs.declared.Slot.{Slot}
 use Rattle.image.specs.Slot.{slotOf, rootKey}
 use Rattle.image.proofs.Laid.{SameHeader, header-put, same-place, wide, behind, room, in-order}
 use Rattle.image.specs.Laid.{Laid}
@@ -134,3 +135,10 @@ module _ (image : List ℕ) (c k w : ℕ) (laid : Laid image) (below : c < count
       (⊎-elim (λ (l : d < c). inr (omega (arith, in-order image d c l, wide image laid)))
       (λ (g : c < d). inl (omega (arith, in-order image c d g)))
       (order d c apart)))
+
+-- a slot, read from its front
+abbrev pub frontSlot : List ℕ → Slot
+frontSlot front = record { «root_state» = wordAt front 0; «counter_state» = wordAt front 4; value = wordAt front 8 }
+
+pub slot-in : (image : List ℕ) (c : ℕ) → Laid image → c < count image → slotOf image c ≡ frontSlot (slotBytes image c)
+slot-in image c laid below = rw (← root-in image c laid below, ← counter-in image c laid below, ← value-in image c laid below)

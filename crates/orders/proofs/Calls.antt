@@ -33,9 +33,9 @@ use Rattle.progress.proofs.Ends.{same-end}
 use Rattle.progress.proofs.RunsWhole.{runs-whole}
 use Rattle.progress.proofs.Steps.{busy-below}
 use Rattle.counters.specs.Compared.{Alike}
-use Rattle.counters.specs.Formed.{Formed}
-use Rattle.counters.proofs.WholeOwn.{whole-kept}
-use Rattle.counters.proofs.Alikes.{same-to, whole-formed, alike-whole}
+use Rattle.rules.specs.Formed.{Formed}
+use Rattle.rules.proofs.Kept.{whole-kept, whole-formed}
+use Rattle.counters.proofs.Alikes.{same-to, alike-whole}
 use Rattle.orders.specs.Ledger.{Pending, None, Doing, Ledger, entry, going, interrupted, restarted}
 use Rattle.orders.proofs.Sound.{Resting, started, Working, AsPending, Sound}
 use Rattle.orders.proofs.SameSteps.{steps-same}

@@ -16,7 +16,7 @@ use Rattle.progress.specs.Steps.{stepsOf}
 use Rattle.progress.proofs.Jobs.{At}
 use Rattle.progress.proofs.Enabled.{enabledAs}
 use Rattle.counters.specs.Compared.{Alike}
-use Rattle.counters.specs.Formed.{Formed}
+use Rattle.rules.specs.Formed.{Formed}
 use Rattle.orders.specs.Ledger.{Pending, None, Doing, Ledger, entry}
 
 -- no frame is under way: the device is as if

@@ -23,7 +23,7 @@ use Rattle.orders.specs.Account.{account, begun}
 use Rattle.counters.specs.Reordering.{ownFrames, allWhole, ownStatuses}
 use Rattle.promises.specs.Reordering.{eachRun, Commands}
 use Rattle.promises.specs.Examples.{Example, Ready, Given, script, Seen, Happens}
-use Rattle.counters.specs.Formed.{Formed}
+use Rattle.rules.specs.Formed.{Formed}
 use Rattle.orders.proofs.FirstHalf as FirstHalf
 use Rattle.orders.proofs.FirstHalf.{all-sound, start-sound}
 use Rattle.counters.proofs.SecondHalf.{same-counter, same-session, same-statuses}

@@ -22,7 +22,7 @@ use Rattle.orders.specs.Account.{Account, goneBy, worked, framed, accounted, ac
 use Rattle.counters.specs.Reordering.{ownFrames, allWhole}
 use Rattle.promises.specs.Reordering.{eachRun, Commands}
 use Rattle.orders.proofs.Sound.{Resting, Sound}
-use Rattle.counters.specs.Formed.{Formed}
+use Rattle.rules.specs.Formed.{Formed}
 use Rattle.orders.proofs.Calls.{formed-as-if}
 use Rattle.orders.proofs.FirstHalf.{next, all-sound, at-rest, same-device}
 use Rattle.orders.proofs.ItEnds.{idle-after-work}
