@@ -2,8 +2,10 @@
 -- Assumes nothing.
 use Prim.Native.Nat.{ℕ, _-_}
 use mathlib.Core.Path.{_≡_, ap, _∙_}
+use mathlib.Core.Bool.{true}
 use mathlib.Core.List.{List}
 use native.Mathlib.Omega.{arith}
+use lib.Dec.{eqb}
 use lib.ListN.{length, replicate}
 use Rattle.words.specs.Choice.{pick}
 use Rattle.words.specs.Words.{bytesOfAll}
@@ -23,7 +25,9 @@ use Rattle.frames.specs.Layout.{counterOf}
 use Rattle.state.specs.declared.State.{State}
 use Rattle.decision.specs.Decision.{decision}
 use Rattle.steps.specs.Deciding.{decisionOf, decided}
-use Rattle.rules.specs.Whole.{Outcome, frameKept, valueIn, signature, keyIn, newSessionKey, lastStatus}
+use Rattle.arrival.specs.Arrival.{jobOf, taken, arrived}
+use Rattle.arrival.proofs.Arrives.{arrived-starts}
+use Rattle.rules.specs.Whole.{Outcome, frameKept, kindIn, valueIn, statusOnArrival, signature, keyIn, newSessionKey, lastStatus}
 use Rattle.device.specs.Work.{Device, run}
 use Rattle.device.specs.Calls.{device, outcome}
 use Rattle.progress.proofs.Runs.{run-add}
@@ -51,6 +55,13 @@ module _ (d : Device) (frame : List ℕ) where
   asked kind chain inner =
       busy kind (d .state .keys) (counterOf frame) sent root (signatureSteps (commandOf kind) - 1) chain
       (madeBy (commandOf kind) (outcome d) frame) inner 0
+
+-- a command frame that passes checks 1 to 7 starts one
+pub frame-starts :
+    (d : Device) (frame : List ℕ) → eqb (statusOnArrival (d .image) (d .state .keys) frame) 0 ≡ true →
+    arrived (d .image) (d .state) frame ≡ start d frame (kindIn (outcome d) frame)
+unfolding taken jobOf
+frame-starts d frame passes = arrived-starts (d .image) (d .state) frame passes
 
 -- a digest to which the steps of the check come, and on which the decision is that of the page
 pub record Checked (d : Device) (frame : List ℕ) (kind : Kind) : Type 0 where

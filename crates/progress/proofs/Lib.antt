@@ -1,4 +1,4 @@
--- The laws of a device's run, and that it comes to the whole-frame page.
+-- The laws of a device's run, that it comes to the whole-frame page, and after how many steps.
 pub mod Runs
 pub mod Hashing
 pub mod Stores
@@ -9,3 +9,4 @@ pub mod Storing
 pub mod Ended
 pub mod Checked
 pub mod RunsWhole
+pub mod Steps

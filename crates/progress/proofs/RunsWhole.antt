@@ -21,14 +21,14 @@ use Rattle.plan.specs.Storing.{allStored}
 use Rattle.steps.specs.Ending.{withKey, finishedBy}
 use Rattle.steps.specs.Deciding.{withKept}
 use Rattle.steps.proofs.AfterCheck.{passed}
-use Rattle.arrival.specs.Arrival.{jobOf, taken, arrived}
-use Rattle.rules.specs.Whole.{frameKept, statusOnArrival, valueIn, keptAfter, imageAfter, failedWith, carriedOut, kindIn, allChecks, whole, keyIn, lastStatus}
+use Rattle.arrival.specs.Arrival.{taken, arrived}
+use Rattle.rules.specs.Whole.{frameKept, statusOnArrival, valueIn, keptAfter, imageAfter, failedWith, carriedOut, kindIn, whole, keyIn, lastStatus}
 use Rattle.rules.proofs.TenChecks.{all-checks}
-use Rattle.arrival.proofs.Arrives.{arrived-fails, arrived-starts}
+use Rattle.arrival.proofs.Arrives.{arrived-fails}
 use Rattle.device.specs.Work.{Device, run}
 use Rattle.device.specs.Calls.{device, outcome}
 use Rattle.progress.proofs.Runs.{run-not-taken, run-add}
-use Rattle.progress.proofs.Checked.{start, asked, Checked, checked}
+use Rattle.progress.proofs.Checked.{start, asked, frame-starts, Checked, checked}
 use Rattle.progress.proofs.Storing.{stored-all, stored-request}
 use Rattle.progress.proofs.Ended.{ended}
 
@@ -111,9 +111,10 @@ runs-by :
     (d : Device) (frame : List ℕ) → d .state .job .there ≡ false → length (keyIn (outcome d) frame .bytes) ≡ 32 →
     (b : Bool) → eqb (statusOnArrival (d .image) (d .state .keys) frame) 0 ≡ b →
     outcome (run longest (device (d .image) (arrived (d .image) (d .state) frame))) ≡ whole (outcome d) frame
-unfolding whole taken jobOf pick failedWith
+unfolding whole taken pick failedWith
 runs-by d frame idle formed true e =
-    rw (arrived-starts (d .image) (d .state) frame e, all-checks (outcome d) frame, e) (whole-kind d frame formed (kindIn (outcome d) frame) (checked d frame formed (kindIn (outcome d) frame)))
+    let kind = kindIn (outcome d) frame in
+    rw (frame-starts d frame e, all-checks (outcome d) frame, e) (whole-kind d frame formed kind (checked d frame formed kind))
 runs-by d frame idle formed false e =
     rw (
       arrived-fails (d .image) (d .state) frame e,
@@ -123,8 +124,8 @@ runs-by d frame idle formed false e =
       e,
     )
 
--- A command frame that finds the device idle, and the steps after it, at most those of the longest job, come to what the page says. A session key
--- has 32 bytes in every state of the type.
+-- A command frame that finds the device idle, and the steps after it, at most those of the longest job, come to what the page says. A
+-- session key has 32 bytes in every state of the type.
 pub runs-whole :
     (d : Device) (frame : List ℕ) → d .state .job .there ≡ false → length (keyIn (outcome d) frame .bytes) ≡ 32 →
     outcome (run longest (device (d .image) (arrived (d .image) (d .state) frame))) ≡ whole (outcome d) frame
