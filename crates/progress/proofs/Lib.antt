@@ -10,3 +10,5 @@ pub mod Ended
 pub mod Checked
 pub mod RunsWhole
 pub mod Steps
+pub mod Kept
+pub mod Adds
