@@ -1,9 +1,9 @@
 -- What a row of the examples claims, and the calls on a ready device: a command frame is taken, and a work call does its quota of
 -- steps. Assumes nothing.
 use Prim.Native.Nat.{ℕ, _<_}
-use mathlib.Core.Path.{_≡_, ap, sym, _∙_}
+use mathlib.Core.Path.{_≡_, ap, _∙_}
 use mathlib.Core.Bool.{Bool}
-use mathlib.Core.List.{List, []}
+use mathlib.Core.List.{List}
 use native.Mathlib.Omega.{arith}
 use borrow.Author.Tests.{lt-ltb, ne-eqb}
 use lib.ListN.{length, getD}
@@ -17,10 +17,10 @@ use Rattle.device.specs.Calls.{device, After, Frame, Work, called, outcome}
 use Rattle.progress.proofs.Enabled.{enabledAs}
 use Rattle.progress.proofs.Ends.{work-runs}
 use Rattle.orders.specs.Orders.{allCalled}
-use Rattle.orders.specs.Account.{Account, accounted}
+use Rattle.orders.specs.Ledger.{None, Ledger, entry, entered}
 use Rattle.promises.specs.Examples.{Example, Ready, Given, script, Seen}
 use Rattle.orders.proofs.Sound.{started, Sound, rest-sound}
-use Rattle.orders.proofs.FirstHalf.{not-refused, frame-done, next, same-device}
+use Rattle.orders.proofs.Ledger.{not-refused, frame-done, next}
 
 -- given what a row says, and called as it says, a device shows what it says
 abbrev pub Holds : Example → Device → List ℕ → List ℕ → Type 0
@@ -28,17 +28,17 @@ Holds p d frame output = Given p d frame → Seen p d frame (allCalled (script p
 
 -- a ready device, as what an order of calls starts from
 module _ (d : Device) (ready : Ready d) (output : List ℕ) where
-  abbrev rested : Account
-  rested = record { device = d; asIf = outcome d; frame = [] }
+  abbrev rested : Ledger
+  rested = entry (outcome d) None (d .state .enabled)
 
-  sound : Sound rested
+  sound : Sound rested d
   sound =
       rest-sound d (ready .accepted)
       (record { laid = accepted-laid (d .image) (ready .accepted); four = ready .four-keys; long = ready .long-keys }) (ready .none)
 
   -- a frame is not refused
   pub frame-called : (frame : List ℕ) → called (Frame frame output) d ≡ device (d .image) (stateAfter (classOf frame) (d .image) (d .state) frame)
-  frame-called frame = ap (λ (r : After). r .device) (frame-done rested sound frame output)
+  frame-called frame = ap (λ (r : After). r .device) (frame-done rested d sound frame output)
 
   -- a device is ready with reset-enable on or off
   pub ready-enabled : (b : Bool) → Ready (enabledAs b d)
@@ -67,7 +67,5 @@ module _ (d : Device) (ready : Ready d) (output : List ℕ) where
     -- and then worked on
     pub work-called : (n : ℕ) → called (Work n) (called (Frame frame output) d) ≡ run n (started d frame)
     work-called n =
-        let taken = accounted (Frame frame output) rested in
-        let same = same-device (Frame frame output) rested in
-        ap (called (Work n)) (sym same) ∙ work-runs n (taken .device) (not-refused taken (next (Frame frame output) rested sound))
-        ∙ ap (run n) (same ∙ command-called)
+        let taken = next (Frame frame output) rested d sound in
+        work-runs n (called (Frame frame output) d) (not-refused (entered (Frame frame output) rested) _ taken) ∙ ap (run n) command-called
