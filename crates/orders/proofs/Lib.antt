@@ -1,4 +1,5 @@
 -- Along any order of calls the device is as if the frames that found it idle had run whole.
+pub mod Orders
 pub mod Sound
 pub mod SameSteps
 pub mod Interrupted

@@ -1,5 +1,4 @@
 -- The promises, proved.
-pub mod Reordered
 pub mod Functions
 pub mod ExamplesCalls
 pub mod ExamplesArrival

@@ -33,13 +33,9 @@ Did (Work quota) d r =
     Called work-reads.Post (λ κs a. (device (now (a .0)) (a .1 .0) ≡ d) × (a .1 .1 .0 ≡ quota))
     (λ κs a x s. leaving x [] (now (s .0)) ≡ r)
 
--- a call, and what follows with the device that it left
-pub record Then (call : Call) (d : Device) (More : Device → Type 0) : Type 0 where
-  pub between : After
-  pub did : Did call d between
-  pub more : More (between .device)
-
--- a run made of calls, from a device to another
-unfoldable pub Ran : List Call → Device → Device → Type 0
-Ran [] d e = d ≡ e
-Ran (call ∷ more) d e = Then call d (λ between. Ran more between e)
+-- a run made of calls, and what each of them left, in order
+unfoldable pub Ran : List Call → Device → List After → Type 0
+Ran [] d [] = Unit {0}
+Ran [] d (left ∷ lefts) = ⊥
+Ran (call ∷ more) d [] = ⊥
+Ran (call ∷ more) d (left ∷ lefts) = Did call d left × Ran more (left .device) lefts

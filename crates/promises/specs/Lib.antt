@@ -1,4 +1,3 @@
--- What is promised: a run made of calls of the functions, frames in another order, and the examples.
+-- What is promised: a run made of calls of the functions, and the examples.
 pub mod Functions
-pub mod Reordering
 pub mod Examples
