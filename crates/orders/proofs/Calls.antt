@@ -230,15 +230,16 @@ module _ (frame : List ℕ) (done : ℕ) (o : Outcome) (d : Device) (w : Working
       ap (run m) (w .now) ∙ run-same (d .state .enabled) m (run done start)
       ∙ ap (enabledAs (d .state .enabled)) (sym (run-add m done start))
 
-  enabled-after : run m d .state .enabled ≡ d .state .enabled
+  pub enabled-after : run m d .state .enabled ≡ d .state .enabled
   unfolding withEnabled
   enabled-after = ap (λ (x : Device). x .state .enabled) now-after
 
-  busy-after : isBusy (run m d) ≡ ltb (m + done) (stepsOf o frame)
+  pub busy-after : isBusy (run m d) ≡ ltb (m + done) (stepsOf o frame)
   unfolding withEnabled
   busy-after = ap isBusy now-after ∙ busy-as-told (w .found) frame o (w .formed) (w .none) (w .header) (w .alike) (m + done)
 
-  pub works-on : ltb (m + done) (stepsOf o frame) ≡ true → Working frame (m + done) o (run m d)
+  -- still under way: on the device that its frame found
+  abbrev pub works-on : ltb (m + done) (stepsOf o frame) ≡ true → Working frame (m + done) o (run m d)
   works-on more =
       let kind = kindIn (outcome (w .found)) frame in
       let on = progress kind (counterOf frame) (frameKept frame) (w .found .image) done d (w .at) (w .left) m (busy-after ∙ more) in
@@ -253,6 +254,14 @@ module _ (frame : List ℕ) (done : ℕ) (o : Outcome) (d : Device) (w : Working
         at = on .0;
         left = on .1;
       }
+
+  -- or at its end: the device that its frame found has come to the page
+  pub out-whole : ltb (m + done) (stepsOf o frame) ≡ false → outcome (run m d) ≡ whole (outcome (w .found)) frame
+  unfolding withEnabled
+  out-whole end =
+      let quiet = busy-as-told (w .found) frame o (w .formed) (w .none) (w .header) (w .alike) (m + done) ∙ end in
+      ap outcome now-after ∙ ap outcome (same-end (m + done) start (no-job-idle (run (m + done) start .state) quiet))
+      ∙ runs-whole (w .found) frame (w .none) (w .formed .long (counterOf frame))
 
   works-out : ltb (m + done) (stepsOf o frame) ≡ false → Resting (whole o frame) (run m d)
   works-out end =

@@ -6,3 +6,4 @@ pub mod Interrupted
 pub mod Calls
 pub mod Ledger
 pub mod ItEnds
+pub mod Growing

@@ -147,6 +147,10 @@ since (suc n) d accepted = next-by d (run n d) (since n d accepted) _ refl
 pub run-not-refused : (n : ℕ) (d : Device) → deviceRefusal (d .image) (d .state) ≡ 0 → deviceRefusal (run n d .image) (run n d .state) ≡ 0
 run-not-refused n d accepted = since n d accepted .accepted
 
+-- it keeps the header,
+pub run-header : (n : ℕ) (d : Device) → deviceRefusal (d .image) (d .state) ≡ 0 → SameHeader (run n d .image) (d .image)
+run-header n d accepted = since n d accepted .header
+
 -- and it changes no byte outside the slot of its job's counter, and none of bytes 12-15 in it
 pub run-kept :
     (n : ℕ) (d : Device) → deviceRefusal (d .image) (d .state) ≡ 0 →

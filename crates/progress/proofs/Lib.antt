@@ -8,8 +8,6 @@ pub mod Ends
 pub mod Storing
 pub mod Ended
 pub mod Checked
-pub mod Going
-pub mod Steps
 pub mod RunsWhole
 pub mod Steps
 pub mod Kept
