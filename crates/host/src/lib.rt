@@ -1,6 +1,6 @@
 // The host end: building the four OP1 frames and reading a reply, on numbers and byte slices.
 //
-// Contracts cite specs/. A refused call leaves the output as found; a built frame fills its front, and the rest stays.
+// Contracts cite specs/. A refused call leaves the output as found; what is built fills its front, and the rest stays.
 ghost use mathlib.Core.Path.{_≡_};
 ghost use Prim.Native.Nat.{_+_, _≤_};
 ghost use mathlib.Core.List.{_++_};
@@ -109,16 +109,16 @@ pub fn build_session_key(counter: u32, root: &[u8], key_data: &[u8], out: &mut [
     0
 }
 
-// The session key of a root key and key data, for a host that has no HMAC of its own. Refusal 6.
-pub fn derive_session_key(root: &[u8], key_data: &[u8], out: &mut [u8; 32]) -> u32
+// The session key of a root key and key data, for a host that has no HMAC of its own: 32 bytes. Refusals 6 and 7.
+pub fn derive_session_key(root: &[u8], key_data: &[u8], out: &mut [u8]) -> u32
     ensures { λ r. ⌜ Answers (derivedKey (now (root .entry)) (now («key_data» .entry)) (now (out .entry))) r (now (out .exit)) ⌝ }
 {
-    let number = build_refusal(0, root.len(), key_data.len(), 4, 0, 0);
+    let number = build_refusal(0, root.len(), key_data.len(), 4, out.len(), 32);
     if number != 0 {
         return number;
     }
     let key = signature(root, key_data);
-    *out = key;
+    words::place(&key, 0, out);
     0
 }
 

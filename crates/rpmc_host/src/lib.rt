@@ -55,11 +55,7 @@ pub extern "C" fn rpmc_build_request(
 
 // The session key of a root key and key data.
 #[no_mangle]
-pub extern "C" fn rpmc_session_key(
-    root_key: &[u8],
-    key_data: &[u8],
-    session_key: &mut [u8; 32],
-) -> u32
+pub extern "C" fn rpmc_session_key(root_key: &[u8], key_data: &[u8], session_key: &mut [u8]) -> u32
     ensures { λ r. ⌜ Answers (derivedKey (now («root_key» .entry)) (now («key_data» .entry)) (now («session_key» .entry))) r (now («session_key» .exit)) ⌝ }
 {
     host::derive_session_key(root_key, key_data, session_key)
