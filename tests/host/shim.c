@@ -102,14 +102,14 @@ static void print_verdict(uint32_t given, uint8_t status)
     }
 }
 
-/* Prints the part, and lets its buffer go. A part that is not empty has to be in the reply, at its place:
- * a copy is none. */
+/* Prints the part, and lets its buffer go. It has to be in the reply, at its place: a copy is none. An
+ * empty one is at the front. */
 static void answer_part(struct lent lent, struct lent reply)
 {
     const struct rpmc_reply_part *part = (const void *)bytes(lent);
     take_back(lent, "part", 1);
-    if (part->length != 0 && (reply.length != RPMC_REPLY_SIZE || part->bytes != bytes(reply) + VALUE_PLACE)) {
-        printf("damage: the part is not where the counter bytes stand in the reply\n");
+    if (part->bytes != bytes(reply) + (part->length == 0 ? 0 : VALUE_PLACE)) {
+        printf("damage: the part is not at its place in the reply\n");
         exit(1);
     }
     write_bytes(part->bytes, part->length, letter_a);

@@ -15,7 +15,7 @@ use Rattle.compare.proofs.Agree.{same-self, same-equal}
 use Rattle.hmac.specs.Hmac.{HMAC}
 use Rattle.host.specs.declared.Verdict.{Verdict}
 use Rattle.host.specs.declared.Verdict.the-variants.{Refused, Busy, Failed, WrongTag, WrongSignature, Good}
-use Rattle.host.specs.Reading.{statusIn, sameTag, replySigned, readings, readReply, judged, GoodReply, numberOf, statusOf, partOf}
+use Rattle.host.specs.Reading.{statusIn, sameTag, replySigned, readings, readReply, judged, GoodReply, numberOf, statusOf, partOf, partStart}
 
 -- a reply whose verdict has the number 0, which is in no row, is good
 zero-only : (key tag reply : List ℕ) → numberOf (readReply key tag reply) ≡ 0 → GoodReply key tag reply
@@ -64,14 +64,16 @@ empty-unless WrongTag reply other = refl
 empty-unless WrongSignature reply other = refl
 empty-unless Good reply other = absurd (other refl)
 
--- the part of a good reply is its counter bytes, and of any other it is empty
+-- the part of a good reply is its counter bytes, where they stand, and of any other it is empty
 pub good-part :
-    (key tag reply : List ℕ) →
-    (GoodReply key tag reply → partOf (readReply key tag reply) reply ≡ take 4 (drop 13 reply))
-    × ((GoodReply key tag reply → ⊥) → partOf (readReply key tag reply) reply ≡ [])
-good-part key tag reply =
-    (λ g. ap (λ v. partOf v reply) (good-read key tag reply g),
-    λ other. empty-unless (readReply key tag reply) reply (λ e. other (good-only key tag reply e)))
+    (key tag reply : List ℕ) → GoodReply key tag reply →
+    (partOf (readReply key tag reply) reply ≡ take 4 (drop 13 reply)) × (partStart (readReply key tag reply) ≡ 13)
+good-part key tag reply g =
+    let good = good-read key tag reply g in
+    (ap (λ v. partOf v reply) good, ap partStart good)
+
+pub no-part : (key tag reply : List ℕ) → (GoodReply key tag reply → ⊥) → partOf (readReply key tag reply) reply ≡ []
+no-part key tag reply other = empty-unless (readReply key tag reply) reply (λ e. other (good-only key tag reply e))
 
 -- the status that a verdict carries, if it carries one
 abbrev carried : ℕ → Verdict → ℕ

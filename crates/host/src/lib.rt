@@ -5,11 +5,12 @@ ghost use mathlib.Core.Path.{_≡_};
 ghost use Prim.Native.Nat.{_+_, _≤_};
 ghost use mathlib.Core.List.{_++_};
 ghost use lib.ListN.{length};
+ghost use denote.Ref.{ptr};
 ghost use Rattle.words.specs.Words.{withFront};
 ghost use Rattle.hmac.specs.Hmac.{HMAC};
 ghost use Rattle.frames.specs.Layout.{layoutOf};
 ghost use Rattle.host.specs.Frames.{head, signedBy, rootKeyFrame};
-ghost use Rattle.host.specs.Reading.{sameTag, replySigned, judged, readReply, partOf};
+ghost use Rattle.host.specs.Reading.{sameTag, replySigned, judged, readReply, partOf, partStart, further};
 ghost use Rattle.host.specs.Building.{buildRefusal, dataSizeOf, builtSigned};
 ghost use Rattle.host.specs.Building.{Answers, builtRootKey, builtSessionKey, builtIncrement, builtRequest, derivedKey};
 
@@ -213,6 +214,7 @@ pub fn read_reply(key: &[u8], tag: &[u8], reply: &[u8]) -> Verdict
 // The four counter bytes, where they stand in the reply; empty unless the reply is good.
 pub fn part<'a>(key: &[u8], tag: &[u8], reply: &'a [u8]) -> &'a [u8]
     ensures { λ r. ⌜ now r ≡ partOf (readReply (now (key .entry)) (now (tag .entry)) (now (reply .entry))) (now (reply .entry)) ⌝ }
+    ensures { λ r. ⌜ ptr r ≡ further (partStart (readReply (now (key .entry)) (now (tag .entry)) (now (reply .entry)))) (ptr (reply .entry)) ⌝ }
 {
     match read_reply(key, tag, reply) {
         Verdict::Refused(_) => &reply[0..0],

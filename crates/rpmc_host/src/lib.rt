@@ -2,8 +2,9 @@
 //
 // Each is one call of the host's library, on numbers and byte slices. include/rpmc_host.h says it to C programmers.
 ghost use mathlib.Core.Path.{_≡_};
+ghost use denote.Ref.{ptr};
 ghost use Rattle.host.specs.Building.{Answers, builtRootKey, builtSessionKey, builtIncrement, builtRequest, derivedKey};
-ghost use Rattle.host.specs.Reading.{readReply, numberOf, partOf};
+ghost use Rattle.host.specs.Reading.{readReply, numberOf, partOf, partStart, further};
 use host::Verdict;
 
 // A root key frame, type 00.
@@ -92,6 +93,7 @@ pub extern "C" fn rpmc_part<'a>(
     part: &mut &'a [u8],
 )
     ensures { λ _. ⌜ now (now (part .exit)) ≡ partOf (readReply (now («session_key» .entry)) (now (tag .entry)) (now (reply .entry))) (now (reply .entry)) ⌝ }
+    ensures { λ _. ⌜ ptr (now (part .exit)) ≡ further (partStart (readReply (now («session_key» .entry)) (now (tag .entry)) (now (reply .entry)))) (ptr (reply .entry)) ⌝ }
 {
     *part = host::part(session_key, tag, reply);
 }
