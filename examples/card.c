@@ -125,7 +125,8 @@ static enum card_outcome open_once(struct card *card)
     enum card_outcome outcome = command(card, frame, sizeof frame);
     if (outcome != CARD_GOOD)
         return outcome;
-    (void)rpmc_session_key(card->root_key, RPMC_KEY_SIZE, key_data, sizeof key_data, card->session_key);
+    (void)rpmc_session_key(card->root_key, RPMC_KEY_SIZE, key_data, sizeof key_data, card->session_key,
+                           sizeof card->session_key);
     return request_once(card, &value);
 }
 

@@ -148,7 +148,7 @@ uint32_t rpmc_build_session_key(uint32_t counter, const uint8_t *root_key, size_
  *
  * RPMC_DONE, or refused: RPMC_REFUSED_LENGTH. */
 uint32_t rpmc_session_key(const uint8_t *root_key, size_t root_key_length, const uint8_t *key_data,
-                          size_t key_data_length, uint8_t session_key[RPMC_KEY_SIZE]);
+                          size_t key_data_length, uint8_t *session_key, size_t room);
 
 /* Builds an increment frame, of 40 bytes: adds 1 to a counter that has the value given.
  *

@@ -31,14 +31,14 @@ def sections():
     return dict(zip(parts[1::2], parts[2::2]))
 
 
-def functions(section):
-    """The table of a section: each function with the cell of its wrong answers."""
+def functions(section, column=COLUMN):
+    """The table of a section: each function with its cell in a column."""
     rows = [[cell.strip() for cell in line.strip("|").split("|")] for line in section.splitlines()
             if line.startswith("|")]
-    heads = [row for row in rows if COLUMN in row]
+    heads = [row for row in rows if column in row]
     if not heads:
         return {}
-    at = heads[0].index(COLUMN)
+    at = heads[0].index(column)
     return {row[0]: row[at] for row in rows if row[0].startswith("`")}
 
 

@@ -37,7 +37,7 @@ FRAME_SIZES = (64, 40, 40, 48)
 
 BUILT = {f"{builder} {number}" for builder in BUILDERS for number in (0, 5, 6, 7)}
 VERDICTS = {"0 good", "0 busy", "0 failed", "0 tag", "0 signature", "6 refused", "8 refused"}
-SESSION_KEYS = {"0", "6"}
+SESSION_KEYS = {"0", "6", "7"}
 
 KEY = bytes(range(0x20, 0x40))
 DATA = bytes.fromhex("00112233")
@@ -123,6 +123,17 @@ def no_requests():
     return [(line, "?") for line in lines]
 
 
+def session_keys():
+    """The key, at the front of an output that is long enough or as long; 6 before 7, and the output as it was."""
+    wrong = [(KEY[1:], DATA), (KEY + b"\0", DATA), (b"", DATA), (KEY, DATA[1:]), (KEY, DATA + b"\0"), (KEY, b"")]
+    for room in (0, 31, 32, 33, 64):
+        output = (REST * 8)[:room]
+        wanted = "0 " + digits(signature(KEY, DATA) + output[32:]) if room >= 32 else "7 " + digits(output)
+        yield session_key_line(KEY, DATA, output), wanted
+        for root_key, data in wrong:
+            yield session_key_line(root_key, data, output), "6 " + digits(output)
+
+
 EDGES = {
     "frames built": built,
     "frames refused": refused,
@@ -179,18 +190,25 @@ def compare_random(library, second, lines, reached):
     return f"{len(lines)} calls"
 
 
-def compare_session_keys(library, rng, count, reached):
-    lines, wanted = [], []
-    for _ in range(count):
-        root_key = rng.randbytes(length(rng, 32, (0, 1, 31, 33, 64)))
-        data, output = rng.randbytes(length(rng, 4, (0, 1, 3, 5, 32))), rng.randbytes(32)
-        lines.append(session_key_line(root_key, data, output))
-        right = len(root_key) == 32 and len(data) == 4
-        wanted.append("0 " + digits(signature(root_key, data)) if right else "6 " + digits(output))
+def random_session_key(rng):
+    """A line, and its answer."""
+    root_key = rng.randbytes(length(rng, 32, (0, 1, 31, 33, 64)))
+    data = rng.randbytes(length(rng, 4, (0, 1, 3, 5, 32)))
+    output = rng.randbytes(length(rng, rng.choice((32, 32 + rng.randrange(20))), (0, 31, rng.randrange(32))))
+    wanted = "0 " + digits(signature(root_key, data) + output[32:])
+    if len(root_key) != 32 or len(data) != 4:
+        wanted = "6 " + digits(output)
+    elif len(output) < 32:
+        wanted = "7 " + digits(output)
+    return session_key_line(root_key, data, output), wanted
+
+
+def compare_session_keys(library, cases, reached):
+    lines, wanted = zip(*cases)
     answers = library.ask_lines(lines)
     expect(library.name, lines, answers, wanted)
     reached.extend(zip(lines, answers))
-    return f"{count} calls"
+    return f"{len(cases)} calls"
 
 
 # ---- coverage
@@ -227,10 +245,12 @@ def main():
     tally, reached = Tally(), []
     for name, cases in EDGES.items():
         tally.test(name, lambda: try_cases((library, second), list(cases())))
+    tally.test("session keys", lambda: compare_session_keys(library, list(session_keys()), []))
     for name, call in (("random builds", random_build), ("random replies", random_reply)):
         lines = [call(rng) for _ in range(given.count // 2)]
         tally.test(name, lambda: compare_random(library, second, lines, reached))
-    tally.test("random session keys", lambda: compare_session_keys(library, rng, given.count // 10, reached))
+    session_key_cases = [random_session_key(rng) for _ in range(given.count // 10)]
+    tally.test("random session keys", lambda: compare_session_keys(library, session_key_cases, reached))
     test_coverage(tally, reached)
     return tally.end()
 

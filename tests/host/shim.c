@@ -6,7 +6,7 @@
  *
  *   B TYPE COUNTER KEY DATA OUT  builds a frame of type 0 to 3; DATA is `-` for type 0: NUMBER OUT
  *   V KEY TAG REPLY              reads a reply: NUMBER VERDICT STATUS PART, as second/src/host_lines.rs has it
- *   K KEY DATA OUT               makes a session key, into 32 bytes: NUMBER OUT
+ *   K KEY DATA OUT               makes a session key: NUMBER OUT
  *
  * Every buffer that the library gets has its exact size and stands between guard bytes. If a call
  * changed a guard byte, or a byte that it was only lent to read, the shim says so and ends.
@@ -71,7 +71,8 @@ static void answer_session_key(struct lent key, struct lent data, struct lent se
     lend(key);
     lend(data);
     lend(session_key);
-    uint32_t number = rpmc_session_key(bytes(key), key.length, bytes(data), data.length, bytes(session_key));
+    uint32_t number = rpmc_session_key(bytes(key), key.length, bytes(data), data.length, bytes(session_key),
+                                       session_key.length);
     take_back_to_read(key, "key");
     take_back_to_read(data, "data");
     answer(number, session_key);
@@ -101,14 +102,14 @@ static void print_verdict(uint32_t given, uint8_t status)
     }
 }
 
-/* Prints the part, and lets its buffer go. A part that is not empty has to be in the reply, at its place:
- * a copy is none. */
+/* Prints the part, and lets its buffer go. It has to be in the reply, at its place: a copy is none. An
+ * empty one is at the front. */
 static void answer_part(struct lent lent, struct lent reply)
 {
     const struct rpmc_reply_part *part = (const void *)bytes(lent);
     take_back(lent, "part", 1);
-    if (part->length != 0 && (reply.length != RPMC_REPLY_SIZE || part->bytes != bytes(reply) + VALUE_PLACE)) {
-        printf("damage: the part is not where the counter bytes stand in the reply\n");
+    if (part->bytes != bytes(reply) + (part->length == 0 ? 0 : VALUE_PLACE)) {
+        printf("damage: the part is not at its place in the reply\n");
         exit(1);
     }
     write_bytes(part->bytes, part->length, letter_a);
@@ -162,7 +163,7 @@ static void answer_line(const char *line, size_t length)
         answer_build(type, counter, field_bytes(f[2]), field_bytes(f[3]), field_bytes(f[4]));
     else if (letter == 'V' && count == 3 && are_bytes(f, 3))
         answer_reply(field_bytes(f[0]), field_bytes(f[1]), field_bytes(f[2]));
-    else if (letter == 'K' && count == 3 && are_bytes(f, 3) && field_length(f[2], letter_a) == RPMC_KEY_SIZE)
+    else if (letter == 'K' && count == 3 && are_bytes(f, 3))
         answer_session_key(field_bytes(f[0]), field_bytes(f[1]), field_bytes(f[2]));
     else
         printf("?\n");

@@ -27,7 +27,7 @@ int main(void)
     print(answer, frame, RPMC_INCREMENT_FRAME_SIZE);
     answer = rpmc_build_request(3, key, sizeof key, tag, sizeof tag, frame, sizeof frame);
     print(answer, frame, RPMC_REQUEST_FRAME_SIZE);
-    answer = rpmc_session_key(key, sizeof key, four, sizeof four, made);
+    answer = rpmc_session_key(key, sizeof key, four, sizeof four, made, sizeof made);
     print(answer, made, sizeof made);
     if (fread(reply, 1, sizeof reply, stdin) != sizeof reply)
         return 1;

@@ -1,6 +1,8 @@
 -- One answer only, for each public function of this crate. Assumes nothing.
+use Prim.Native.Nat.{ℕ}
 use mathlib.Core.Path.{sym, _∙_}
-use denote.Ref.{now}
+use mathlib.Core.List.{List}
+use denote.Ref.{ptr, now}
 use Rattle.words.proofs.Unique.{OneResult, OneLent, OneSeen}
 use Rattle.host.proofs.build_root_key.Reads as build-root-key-reads
 use Rattle.host.proofs.build_session_key.Reads as build-session-key-reads
@@ -43,5 +45,5 @@ derive-session-key-one-lent κs a x y s t p q = p .1 ∙ sym (q .1)
 read-reply-one : OneResult read-reply-reads.Post
 read-reply-one κs a x y s t p q = p ∙ sym q
 
-part-one : OneSeen part-reads.Post (λ κs r. now r)
-part-one κs a x y s t p q = p ∙ sym q
+part-one : OneSeen part-reads.Post {L = (ℕ × ℕ) × List ℕ} (λ κs r. (ptr r, now r))
+part-one κs a x y s t p q = λ i. ((p .1 ∙ sym (q .1)) i, (p .0 ∙ sym (q .0)) i)

@@ -66,7 +66,9 @@ abbrev pub builtSigned : ℕ → ℕ → List ℕ → List ℕ → List ℕ → 
 builtSigned type counter key bytes output =
     builtFrame type counter key bytes (signedBy key (head type counter ++ bytes)) output
 
--- the session key of a root key and key data, those of type 01; a wrong length is refused as in a build
+-- the session key of a root key and key data, those of type 01: refused as a build is, and 32 bytes at the front of the output
 abbrev pub derivedKey : List ℕ → List ℕ → List ℕ → Built
 derivedKey root keyData output =
-    built (buildRefusal 0 (length root) (length keyData) (dataSizeOf 1) 0 0) (newSessionKey root keyData) output
+    built (buildRefusal 0 (length root) (length keyData) (dataSizeOf 1) (length output) 32)
+    (withFront (newSessionKey root keyData) output)
+    output

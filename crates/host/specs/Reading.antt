@@ -1,5 +1,5 @@
 -- Document 01, "Reading a reply at the host": the verdict, in order, and the part with the counter bytes. Assumes nothing.
-use Prim.Native.Nat.{ℕ, _%_}
+use Prim.Native.Nat.{ℕ, _+_, _%_}
 use mathlib.Core.Path.{_≡_}
 use mathlib.Core.Bool.{Bool, not}
 use mathlib.Core.List.{List, [], _∷_}
@@ -79,3 +79,16 @@ partOf (Failed status) reply = []
 partOf WrongTag reply = []
 partOf WrongSignature reply = []
 partOf Good reply = take 4 (drop 13 reply)
+
+-- which byte of the reply the part starts at; an empty one is at the front
+abbrev pub partStart : Verdict → ℕ
+partStart (Refused number) = 0
+partStart Busy = 0
+partStart (Failed status) = 0
+partStart WrongTag = 0
+partStart WrongSignature = 0
+partStart Good = 13
+
+-- a place in memory, a buffer and an offset in it, so many bytes further on
+abbrev pub further : ℕ → ℕ × ℕ → ℕ × ℕ
+further bytes place = (place .0, place .1 + bytes)

@@ -1,15 +1,16 @@
 // The host end: building the four OP1 frames and reading a reply, on numbers and byte slices.
 //
-// Contracts cite specs/. A refused call leaves the output as found; a built frame fills its front, and the rest stays.
+// Contracts cite specs/. A refused call leaves the output as found; what is built fills its front, and the rest stays.
 ghost use mathlib.Core.Path.{_≡_};
 ghost use Prim.Native.Nat.{_+_, _≤_};
 ghost use mathlib.Core.List.{_++_};
 ghost use lib.ListN.{length};
+ghost use denote.Ref.{ptr};
 ghost use Rattle.words.specs.Words.{withFront};
 ghost use Rattle.hmac.specs.Hmac.{HMAC};
 ghost use Rattle.frames.specs.Layout.{layoutOf};
 ghost use Rattle.host.specs.Frames.{head, signedBy, rootKeyFrame};
-ghost use Rattle.host.specs.Reading.{sameTag, replySigned, judged, readReply, partOf};
+ghost use Rattle.host.specs.Reading.{sameTag, replySigned, judged, readReply, partOf, partStart, further};
 ghost use Rattle.host.specs.Building.{buildRefusal, dataSizeOf, builtSigned};
 ghost use Rattle.host.specs.Building.{Answers, builtRootKey, builtSessionKey, builtIncrement, builtRequest, derivedKey};
 
@@ -109,16 +110,16 @@ pub fn build_session_key(counter: u32, root: &[u8], key_data: &[u8], out: &mut [
     0
 }
 
-// The session key of a root key and key data, for a host that has no HMAC of its own. Refusal 6.
-pub fn derive_session_key(root: &[u8], key_data: &[u8], out: &mut [u8; 32]) -> u32
+// The session key of a root key and key data, for a host that has no HMAC of its own: 32 bytes. Refusals 6 and 7.
+pub fn derive_session_key(root: &[u8], key_data: &[u8], out: &mut [u8]) -> u32
     ensures { λ r. ⌜ Answers (derivedKey (now (root .entry)) (now («key_data» .entry)) (now (out .entry))) r (now (out .exit)) ⌝ }
 {
-    let number = build_refusal(0, root.len(), key_data.len(), 4, 0, 0);
+    let number = build_refusal(0, root.len(), key_data.len(), 4, out.len(), 32);
     if number != 0 {
         return number;
     }
     let key = signature(root, key_data);
-    *out = key;
+    words::place(&key, 0, out);
     0
 }
 
@@ -213,6 +214,7 @@ pub fn read_reply(key: &[u8], tag: &[u8], reply: &[u8]) -> Verdict
 // The four counter bytes, where they stand in the reply; empty unless the reply is good.
 pub fn part<'a>(key: &[u8], tag: &[u8], reply: &'a [u8]) -> &'a [u8]
     ensures { λ r. ⌜ now r ≡ partOf (readReply (now (key .entry)) (now (tag .entry)) (now (reply .entry))) (now (reply .entry)) ⌝ }
+    ensures { λ r. ⌜ ptr r ≡ further (partStart (readReply (now (key .entry)) (now (tag .entry)) (now (reply .entry)))) (ptr (reply .entry)) ⌝ }
 {
     match read_reply(key, tag, reply) {
         Verdict::Refused(_) => &reply[0..0],

@@ -1,3 +1,4 @@
--- The longest job, and that each public function has one answer only.
+-- The longest job, the types of the commands, and that each public function has one answer only.
 pub mod Longest
+pub mod Types
 pub mod OneAnswer

@@ -11,7 +11,7 @@ use state::Job;
 use state::Key;
 
 // The flag at a place.
-pub fn flag_at(s: &[u8], at: usize) -> bool
+pub(crate) fn flag_at(s: &[u8], at: usize) -> bool
     ensures { λ r. ⌜ r ≡ flagOf (getD (now (s .entry)) at 0) ⌝ }
 {
     words::byte(s, at) == 1
@@ -94,7 +94,7 @@ fn key_at(s: &[u8], at: usize) -> Key
 }
 
 // The four session keys.
-pub fn keys_of(s: &[u8]) -> [Key; 4]
+pub(crate) fn keys_of(s: &[u8]) -> [Key; 4]
     ensures { λ r. ⌜ r ≡ keysOf (now (s .entry)) ⌝ }
 {
     let first = key_at(s, 59);
@@ -105,14 +105,14 @@ pub fn keys_of(s: &[u8]) -> [Key; 4]
 }
 
 // The chaining words.
-pub fn chain_of(s: &[u8]) -> [u32; 8]
+pub(crate) fn chain_of(s: &[u8]) -> [u32; 8]
     ensures { λ r. ⌜ r ≡ wordsAt 191 8 (now (s .entry)) ⌝ }
 {
     words_8(s, 191)
 }
 
 // The reply.
-pub fn reply_of(s: &[u8]) -> Reply
+pub(crate) fn reply_of(s: &[u8]) -> Reply
     ensures { λ r. ⌜ r ≡ replyOf (now (s .entry)) ⌝ }
 {
     let there = flag_at(s, 10);
@@ -121,7 +121,7 @@ pub fn reply_of(s: &[u8]) -> Reply
 }
 
 // The job.
-pub fn job_of(s: &[u8]) -> Job
+pub(crate) fn job_of(s: &[u8]) -> Job
     ensures { λ r. ⌜ r ≡ jobOf (now (s .entry)) ⌝ }
 {
     let there = flag_at(s, 2);

@@ -81,7 +81,7 @@ fn put_words(w: [u32; 8], at: usize, out: &mut [u8; 383])
 }
 
 // Stores the head.
-pub fn put_head(s: State, out: &mut [u8; 383])
+pub(crate) fn put_head(s: State, out: &mut [u8; 383])
     ensures { λ _. ⌜ Stored (now (out .entry)) 0 (packedHead s) 11 (now (out .exit)) ⌝ }
 {
     let job = s.job;
@@ -105,7 +105,7 @@ pub fn put_head(s: State, out: &mut [u8; 383])
 }
 
 // Stores the bytes of the reply.
-pub fn put_reply(s: State, out: &mut [u8; 383])
+pub(crate) fn put_reply(s: State, out: &mut [u8; 383])
     ensures { λ _. ⌜ Stored (now (out .entry)) 11 (s .reply .bytes) 48 (now (out .exit)) ⌝ }
 {
     let reply = s.reply;
@@ -124,7 +124,7 @@ fn put_key(key: Key, at: usize, out: &mut [u8; 383])
 }
 
 // Stores the session keys.
-pub fn put_keys(s: State, out: &mut [u8; 383])
+pub(crate) fn put_keys(s: State, out: &mut [u8; 383])
     ensures { λ _. ⌜ Stored (now (out .entry)) 59 (packedKeys s) 132 (now (out .exit)) ⌝ }
 {
     put_key(state::session_key(s, 0), 59, out);
@@ -134,7 +134,7 @@ pub fn put_keys(s: State, out: &mut [u8; 383])
 }
 
 // Stores the chaining words, and what the job keeps.
-pub fn put_work(s: State, out: &mut [u8; 383])
+pub(crate) fn put_work(s: State, out: &mut [u8; 383])
     ensures { λ _. ⌜ Stored (now (out .entry)) 191 (packedWork s) 192 (now (out .exit)) ⌝ }
 {
     let chain = s.chain;

@@ -2,8 +2,9 @@
 //
 // Each is one call of the host's library, on numbers and byte slices. include/rpmc_host.h says it to C programmers.
 ghost use mathlib.Core.Path.{_≡_};
+ghost use denote.Ref.{ptr};
 ghost use Rattle.host.specs.Building.{Answers, builtRootKey, builtSessionKey, builtIncrement, builtRequest, derivedKey};
-ghost use Rattle.host.specs.Reading.{readReply, numberOf, partOf};
+ghost use Rattle.host.specs.Reading.{readReply, numberOf, partOf, partStart, further};
 use host::Verdict;
 
 // A root key frame, type 00.
@@ -55,11 +56,7 @@ pub extern "C" fn rpmc_build_request(
 
 // The session key of a root key and key data.
 #[no_mangle]
-pub extern "C" fn rpmc_session_key(
-    root_key: &[u8],
-    key_data: &[u8],
-    session_key: &mut [u8; 32],
-) -> u32
+pub extern "C" fn rpmc_session_key(root_key: &[u8], key_data: &[u8], session_key: &mut [u8]) -> u32
     ensures { λ r. ⌜ Answers (derivedKey (now («root_key» .entry)) (now («key_data» .entry)) (now («session_key» .entry))) r (now («session_key» .exit)) ⌝ }
 {
     host::derive_session_key(root_key, key_data, session_key)
@@ -96,6 +93,7 @@ pub extern "C" fn rpmc_part<'a>(
     part: &mut &'a [u8],
 )
     ensures { λ _. ⌜ now (now (part .exit)) ≡ partOf (readReply (now («session_key» .entry)) (now (tag .entry)) (now (reply .entry))) (now (reply .entry)) ⌝ }
+    ensures { λ _. ⌜ ptr (now (part .exit)) ≡ further (partStart (readReply (now («session_key» .entry)) (now (tag .entry)) (now (reply .entry)))) (ptr (reply .entry)) ⌝ }
 {
     *part = host::part(session_key, tag, reply);
 }

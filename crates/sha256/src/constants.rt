@@ -1,7 +1,7 @@
 // The constants of SHA-256, each table as FIPS 180-4 prints it.
 
 // Section 4.2.2: K, indexed by the round number.
-pub const K: [u32; 64] = [
+pub(crate) const K: [u32; 64] = [
     0x428a2f98,
     0x71374491,
     0xb5c0fbcf,
@@ -69,7 +69,7 @@ pub const K: [u32; 64] = [
 ];
 
 // Section 5.3.3: the initial hash value.
-pub const H0: [u32; 8] = [
+pub(crate) const H0: [u32; 8] = [
     0x6a09e667,
     0xbb67ae85,
     0x3c6ef372,

@@ -15,14 +15,14 @@ fn rotr(x: u32, n: u32) -> u32
 }
 
 // Ch: where a bit of x is 1 the bit of y, else the bit of z.
-pub fn ch(x: u32, y: u32, z: u32) -> u32
+pub(crate) fn ch(x: u32, y: u32, z: u32) -> u32
     ensures { λ r. ⌜ r ≡ Ch x y z ⌝ }
 {
     z ^ (x & (y ^ z))
 }
 
 // Maj: the bit that most of the three have. A round's x ^ y is the next round's y ^ z, so one of the two is at hand.
-pub fn maj(x: u32, y: u32, z: u32) -> u32
+pub(crate) fn maj(x: u32, y: u32, z: u32) -> u32
     ensures { λ r. ⌜ r ≡ Maj x y z ⌝ }
 {
     y ^ ((x ^ y) & (y ^ z))
@@ -45,35 +45,35 @@ fn rotations_and_shift(x: u32, i: u32, j: u32, k: u32) -> u32
 }
 
 // Σ0, of a round: the rotations by 2, 13 and 22.
-pub fn big_sigma0(x: u32) -> u32
+pub(crate) fn big_sigma0(x: u32) -> u32
     ensures { λ r. ⌜ r ≡ Σ0 x ⌝ }
 {
     rotations(x, 2, 11, 20)
 }
 
 // Σ1, of a round: the rotations by 6, 11 and 25.
-pub fn big_sigma1(x: u32) -> u32
+pub(crate) fn big_sigma1(x: u32) -> u32
     ensures { λ r. ⌜ r ≡ Σ1 x ⌝ }
 {
     rotations(x, 6, 5, 19)
 }
 
 // σ0, of the message schedule: the rotations by 7 and 18, and the shift by 3.
-pub fn small_sigma0(x: u32) -> u32
+pub(crate) fn small_sigma0(x: u32) -> u32
     ensures { λ r. ⌜ r ≡ σ0 x ⌝ }
 {
     rotations_and_shift(x, 7, 18, 3)
 }
 
 // σ1, of the message schedule: the rotations by 17 and 19, and the shift by 10.
-pub fn small_sigma1(x: u32) -> u32
+pub(crate) fn small_sigma1(x: u32) -> u32
     ensures { λ r. ⌜ r ≡ σ1 x ⌝ }
 {
     rotations_and_shift(x, 17, 19, 10)
 }
 
 // The sum of two words, modulo 2^32.
-pub fn sum2(a: u32, b: u32) -> u32
+pub(crate) fn sum2(a: u32, b: u32) -> u32
     ensures { λ r. ⌜ r ≡ (a + b) % 2 ^ 32 ⌝ }
 {
     std::num::wrapping_add_u32(a, b)
@@ -87,14 +87,14 @@ fn sum3(a: u32, b: u32, c: u32) -> u32
 }
 
 // The sum of four words, modulo 2^32.
-pub fn sum4(a: u32, b: u32, c: u32, d: u32) -> u32
+pub(crate) fn sum4(a: u32, b: u32, c: u32, d: u32) -> u32
     ensures { λ r. ⌜ r ≡ (a + b + c + d) % 2 ^ 32 ⌝ }
 {
     sum2(sum3(a, b, c), d)
 }
 
 // The sum of five words, modulo 2^32.
-pub fn sum5(a: u32, b: u32, c: u32, d: u32, e: u32) -> u32
+pub(crate) fn sum5(a: u32, b: u32, c: u32, d: u32, e: u32) -> u32
     ensures { λ r. ⌜ r ≡ (a + b + c + d + e) % 2 ^ 32 ⌝ }
 {
     sum2(sum4(a, b, c, d), e)

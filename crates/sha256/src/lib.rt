@@ -8,9 +8,9 @@ mod functions;
 ghost use mathlib.Core.Path.{_≡_};
 ghost use Prim.Native.Nat.{_+_, _≤_, _<_};
 ghost use mathlib.Core.List.{_++_};
-ghost use lib.ListN.{getD, replicate};
+ghost use lib.ListN.{length, getD, drop};
 ghost use Rattle.sha256.specs.Constants.{K, H⁰};
-ghost use Rattle.sha256.specs.Block.{nextW, withNext, extended, schedule, T₁, T₂, round, rounds, sums, block};
+ghost use Rattle.sha256.specs.Block.{nextW, withNext, extended, T₁, T₂, round, rounds, sums, block};
 use constants::H0;
 use constants::K;
 use functions::big_sigma0;
@@ -67,30 +67,16 @@ fn eight_words(w: &mut [u32; 64], t: usize)
     next_word(w, t + 7);
 }
 
-// Step 1, the words of the block at the front of the schedule, the rest still 0.
-fn first_words(m: [u32; 16]) -> [u32; 64]
-    ensures { λ r. ⌜ r ≡ m ++ replicate 48 0 ⌝ }
+// Step 1, the words of the block, at the front of the schedule.
+fn first_words(m: [u32; 16], w: &mut [u32; 64])
+    requires { ⌜ length (now w) ≡ 64 ⌝ }
+    ensures { λ _. ⌜ now (w .exit) ≡ m ++ drop 16 (now (w .entry)) ⌝ }
 {
-    let mut w = [0u32; 64];
     let mut t = 0;
     while t < 16 {
         w[t] = m[t];
         t += 1;
     }
-    w
-}
-
-// Step 1, the message schedule.
-fn schedule(m: [u32; 16]) -> [u32; 64]
-    ensures { λ r. ⌜ r ≡ schedule m ⌝ }
-{
-    let mut w = first_words(m);
-    let mut t = 16;
-    while t < 64 {
-        eight_words(&mut w, t);
-        t += 8;
-    }
-    w
 }
 
 // Step 3, T1 of the working variables v = a, b, .., h.
@@ -149,14 +135,14 @@ fn eight_rounds(v: [u32; 8], k: &[u32; 64], w: &[u32; 64], t: usize) -> [u32; 8]
 }
 
 // Step 3, the 64 rounds.
-fn all_rounds(h: [u32; 8], w: [u32; 64]) -> [u32; 8]
-    ensures { λ r. ⌜ r ≡ rounds w 0 64 h ⌝ }
+fn all_rounds(h: [u32; 8], w: &[u32; 64]) -> [u32; 8]
+    ensures { λ r. ⌜ r ≡ rounds (now (w .entry)) 0 64 h ⌝ }
 {
     let k = K;
     let mut v = h;
     let mut t = 0;
     while t < 64 {
-        let next = eight_rounds(v, &k, &w, t);
+        let next = eight_rounds(v, &k, w, t);
         v = next;
         t += 8;
     }
@@ -176,9 +162,16 @@ fn sums(v: [u32; 8], h: [u32; 8]) -> [u32; 8]
     next
 }
 
-// The chaining words after the block m, from the chaining words h before it.
+// The chaining words after the block m, from the chaining words h before it. The schedule is an array of the block's own.
 pub fn block(h: [u32; 8], m: [u32; 16]) -> [u32; 8]
     ensures { λ r. ⌜ r ≡ block h m ⌝ }
 {
-    sums(all_rounds(h, schedule(m)), h)
+    let mut w = [0u32; 64];
+    first_words(m, &mut w);
+    let mut t = 16;
+    while t < 64 {
+        eight_words(&mut w, t);
+        t += 8;
+    }
+    sums(all_rounds(h, &w), h)
 }

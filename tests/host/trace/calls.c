@@ -116,7 +116,7 @@ static uint32_t build_request(void)
 
 static uint32_t session_key(void)
 {
-    return rpmc_session_key(key, sizeof key, message, RPMC_KEY_DATA_SIZE, digest);
+    return rpmc_session_key(key, sizeof key, message, RPMC_KEY_DATA_SIZE, digest, sizeof digest);
 }
 
 static uint32_t read_reply(void)

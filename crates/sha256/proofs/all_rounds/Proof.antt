@@ -25,7 +25,7 @@ eight-rounds-requires c κs = (omega arith, refl)
 
 loop-again : tie.Need-loop-again Inv-loop μ-loop
 loop-again c =
-    let head = c .before .before .before .before in
+    let head = c .before .before .before in
     (omega arith, omega arith, c .eight-rounds .ensures ∙ ap (rounds _ _ 8) (head .loop .inv .2) ∙ rounds-on _ _ 8 _)
 
 returns : tie.Need-returns Inv-loop μ-loop

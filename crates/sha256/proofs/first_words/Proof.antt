@@ -11,15 +11,15 @@ use Rattle.sha256.proofs.first_words.Statement.{statement}
 use Rattle.sha256.proofs.first_words.Tie as tie
 
 abbrev Inv-loop : tie.InvT-loop
-Inv-loop m w₀ t₀ w t = (t ≤ 16) × (w ≡ take t m ++ drop t w₀)
+Inv-loop w₀ m t₀ w t = (t ≤ 16) × (w ≡ take t m ++ drop t w₀)
 
 abbrev μ-loop : tie.MeasureT-loop
-μ-loop m w₀ t₀ w t = 16 - t
+μ-loop w₀ m t₀ w t = 16 - t
 
 loop-again : tie.Need-loop-again Inv-loop μ-loop
 loop-again c =
     let head = c .before in
-    (omega arith, rw (head .loop .inv .1) (copy-more (head .before .args .t1) _ (head .loop .t) (omega arith) (omega arith)))
+    (omega arith, rw (head .loop .inv .1) (copy-more (head .before .args .t1) _ (head .loop .t) (omega arith) (omega (arith, head .before .pre))))
 
 returns : tie.Need-returns Inv-loop μ-loop
 returns c =
