@@ -124,3 +124,38 @@ grows-out TemporaryKey frame kept p starts stores j = grows-whole TemporaryKey f
 grows-out SessionKey frame kept p starts stores j = grows-whole SessionKey frame kept p starts stores
 grows-out Increment frame kept p starts stores j = grows-whole Increment frame kept p starts stores
 grows-out Request frame kept p starts stores j = grows-whole Request frame kept p starts stores
+
+-- the value shown changes by no store but that of an increment
+pub value-on : (kind : Kind) (p : Counter) → Starts kind p → (i j : ℕ) → cutAt kind j p .value ≡ cutAt kind i p .value
+value-on RootKeyAndCounter p (root, unset, none) i j =
+    either (λ (q : Counter). q .value ≡ cutAt RootKeyAndCounter i p .value) (ltb 9 j) (zeroed p) p
+    (λ _. either (λ (q : Counter). 0 ≡ q .value) (ltb 9 i) (zeroed p) p (λ _. refl) (λ _. sym none))
+    (λ _. either (λ (q : Counter). p .value ≡ q .value) (ltb 9 i) (zeroed p) p (λ _. none) (λ _. refl))
+value-on RootKey p _ i j = refl
+value-on TemporaryKeyAndCounter p _ i j = refl
+value-on TemporaryKey p _ i j = refl
+value-on SessionKey p _ i j = refl
+value-on Increment p _ i j = refl
+value-on Request p _ i j = refl
+
+-- the kinds of job that are no increment
+abbrev pub NoIncrement : Kind → Type 0
+NoIncrement RootKeyAndCounter = Unit {0}
+NoIncrement RootKey = Unit {0}
+NoIncrement TemporaryKeyAndCounter = Unit {0}
+NoIncrement TemporaryKey = Unit {0}
+NoIncrement SessionKey = Unit {0}
+NoIncrement Increment = ⊥
+NoIncrement Request = Unit {0}
+
+pub value-out :
+    (kind : Kind) → NoIncrement kind → (frame : List ℕ) (kept : ℕ) (p : Counter) → Starts kind p → (j : ℕ) →
+    counterAfter kind frame kept p .value ≡ cutAt kind j p .value
+value-out RootKeyAndCounter _ frame kept p (root, unset, none) j =
+    either (λ (q : Counter). 0 ≡ q .value) (ltb 9 j) (zeroed p) p (λ _. refl) (λ _. sym none)
+value-out RootKey _ frame kept p _ j = refl
+value-out TemporaryKeyAndCounter _ frame kept p (unset, none) j = sym none
+value-out TemporaryKey _ frame kept p _ j = refl
+value-out SessionKey _ frame kept p _ j = refl
+value-out Increment never frame kept p _ j = absurd never
+value-out Request _ frame kept p _ j = refl
