@@ -7,3 +7,4 @@ pub mod Calls
 pub mod Ledger
 pub mod ItEnds
 pub mod Growing
+pub mod Monotonic

@@ -1,14 +1,15 @@
 -- Words spread into their bytes and read back, and bytes read as words and spread back. Assumes nothing.
 use mathlib.Core.Path.{_≡_, refl, _∙_}
 use mathlib.Core.List.{List, [], _∷_}
-use Prim.Native.Nat.{ℕ, zero, suc, _+_, _*_, _/_, _%_, _≤_, _<_}
+use Prim.Native.Nat.{ℕ, zero, suc, _+_, _*_, _/_, _%_, _^_, _≤_, _<_}
 use native.Mathlib.Nat.{mul-suc, add-zero}
 use native.Mathlib.Numerals.{unary-clauses}
 use native.Mathlib.Omega.{arith}
 use lib.ListN.{length, getD, take, drop, length-drop}
 use lib.Seq.{take-length, take-all, take-add, getD-drop}
 use Rattle.words.specs.Table.{table, spread}
-use Rattle.words.specs.Words.{Bytes, wordOf, bytesOf, bytesOfAll, wordAt, wordsOf}
+use Rattle.words.specs.Words.{Bytes, wordOf, bytesOf, bytesOfAll, wordAt, wordOr0, wordsOf, inside}
+use Rattle.words.proofs.Choice.{either}
 use Rattle.words.proofs.Spread.{spread-append}
 use Rattle.words.proofs.Table.{length-table, table-same, table-take}
 
@@ -54,3 +55,21 @@ bytes-front s below (suc n) h =
 -- whole words of bytes, read and spread again
 pub bytes-back : (s : List ℕ) → Bytes s → (n : ℕ) → length s ≡ 4 * n → bytesOfAll (wordsOf n s) ≡ s
 bytes-back s below n e = bytes-front s below n (omega arith) ∙ take-all (4 * n) s (omega arith)
+
+-- a word of bytes fits in 32 bits
+word-below : (a b c d : ℕ) → a < 256 → b < 256 → c < 256 → d < 256 → wordOf a b c d < 2 ^ 32
+word-below a b c d ha hb hc hd = omega arith
+
+-- past the end too
+byte-below : (s : List ℕ) → Bytes s → (i : ℕ) → getD s i 0 < 256
+byte-below [] below i = omega arith
+byte-below (x ∷ s) below zero = below 0 (omega arith)
+byte-below (x ∷ s) below (suc i) = byte-below s (λ j inside. below (suc j) (omega (arith, inside))) i
+
+pub word-small : (s : List ℕ) → Bytes s → (at : ℕ) → wordOr0 s at < 2 ^ 32
+word-small s below at =
+    either (λ (w : ℕ). w < 2 ^ 32) (inside s at) (wordAt s at) 0
+    (λ _. word-below _ _ _ _ (byte at) (byte (at + 1)) (byte (at + 2)) (byte (at + 3))) (λ _. omega arith)
+  where
+    byte : (i : ℕ) → getD s i 0 < 256
+    byte i = byte-below s below i
