@@ -1,3 +1,4 @@
--- What holds of the frame table, and that each public function has one answer only.
+-- What holds of the frame table, the numbers of each class, and that each public function has one answer only.
 pub mod Layouts
+pub mod Classes
 pub mod OneAnswer
