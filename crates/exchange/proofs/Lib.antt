@@ -4,4 +4,5 @@ pub mod Arrives
 pub mod Passes
 pub mod Carried
 pub mod Agreed
+pub mod Comes
 pub mod Replies
