@@ -51,10 +51,10 @@ module _ (o : Outcome) (counter : ℕ) where
   its-command (RequestBuilt key tag) = refl
 
   -- the session key that the device looks at is that of the counter
-  its-key : (b : Built) → Sized b → keyIn o (frameOf counter b) ≡ sessionOf o counter
+  pub its-key : (b : Built) → Sized b → keyIn o (frameOf counter b) ≡ sessionOf o counter
   its-key b size = rw (built-form b counter size .named)
 
-  its-value : (b : Built) → Sized b → valueIn o (frameOf counter b) ≡ slotOf (o .image) counter .value
+  pub its-value : (b : Built) → Sized b → valueIn o (frameOf counter b) ≡ slotOf (o .image) counter .value
   its-value b size = ap (λ (c : ℕ). slotOf (o .image) c .value) (built-form b counter size .named)
 
   -- check 8

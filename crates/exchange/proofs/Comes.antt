@@ -51,7 +51,7 @@ all-work (quota ∷ more) d =
     let rest = all-work more (called (Work quota) d) in
     record { steps = rest .steps + first .steps; ran = rest .ran ∙ ap (run (rest .steps)) (first .ran) ∙ sym (run-add (rest .steps) (first .steps) d) }
 
-not-refused : (d : Device) → Idle d → deviceRefusal (d .image) (d .state) ≡ 0
+pub not-refused : (d : Device) → Idle d → deviceRefusal (d .image) (d .state) ≡ 0
 unfolding jobRefusal firstOf pick
 not-refused d idle = rw (device-refusal (d .image) (d .state), idle .accepted, idle .none)
 

@@ -6,3 +6,4 @@ pub mod Carried
 pub mod Agreed
 pub mod Comes
 pub mod Replies
+pub mod BothEnds
