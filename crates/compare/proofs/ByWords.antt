@@ -5,8 +5,8 @@ use Prim.Native.Nat.{ℕ, _*_}
 use lib.Bits.{bitOr, bitXor, xor-self}
 use lib.Dec.{eqb}
 use lib.ListN.{length}
-use Rattle.words.specs.Words.{wordsOf}
-use Rattle.words.proofs.Back.{Bytes, bytes-back}
+use Rattle.words.specs.Words.{Bytes, wordsOf}
+use Rattle.words.proofs.Back.{bytes-back}
 use Rattle.compare.specs.Compare.{sameBytes, differences}
 use Rattle.compare.proofs.Agree.{xor-none, or-none-l, or-none-r, none-differs, none-equal, decides}
 

@@ -9,8 +9,8 @@ use lib.Dec.{eqb}
 use lib.ListN.{length, getD}
 use lib.Seq.{take-all}
 use Rattle.words.specs.Table.{table, field}
-use Rattle.words.specs.Words.{wordAt, wordsOf}
-use Rattle.words.proofs.Back.{Bytes, length-words}
+use Rattle.words.specs.Words.{Bytes, wordAt, wordsOf}
+use Rattle.words.proofs.Back.{length-words}
 use Rattle.words.proofs.Table.{length-table, getD-table}
 use Rattle.words.proofs.Fields.{field-part}
 use Rattle.compare.specs.Compare.{sameBytes, differences}

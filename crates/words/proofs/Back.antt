@@ -8,13 +8,9 @@ use native.Mathlib.Omega.{arith}
 use lib.ListN.{length, getD, take, drop, length-drop}
 use lib.Seq.{take-length, take-all, take-add, getD-drop}
 use Rattle.words.specs.Table.{table, spread}
-use Rattle.words.specs.Words.{wordOf, bytesOf, bytesOfAll, wordAt, wordsOf}
+use Rattle.words.specs.Words.{Bytes, wordOf, bytesOf, bytesOfAll, wordAt, wordsOf}
 use Rattle.words.proofs.Spread.{spread-append}
 use Rattle.words.proofs.Table.{length-table, table-same, table-take}
-
--- each element is a byte
-abbrev pub Bytes : List ℕ → Type 0
-Bytes s = (i : ℕ) → i < length s → getD s i 0 < 256
 
 pub length-words : (n : ℕ) (s : List ℕ) → length (wordsOf n s) ≡ n
 unfolding wordsOf

@@ -1,5 +1,5 @@
 -- Words: all words are 4 bytes, high byte first; and bytes stored in a row. Assumes nothing.
-use Prim.Native.Nat.{ℕ, _+_, _*_, _/_, _%_}
+use Prim.Native.Nat.{ℕ, _+_, _*_, _/_, _%_, _<_}
 use mathlib.Core.Bool.{Bool}
 use mathlib.Core.List.{List, [], _∷_, _++_}
 use lib.Dec.{leb}
@@ -7,6 +7,10 @@ use lib.ListN.{length, getD, set, drop}
 use lib.Seq.{sets}
 use Rattle.words.specs.Choice.{pick}
 use Rattle.words.specs.Table.{table, spread}
+
+-- each element is a byte
+abbrev pub Bytes : List ℕ → Type 0
+Bytes s = (i : ℕ) → i < length s → getD s i 0 < 256
 
 -- the word of four bytes
 abbrev pub wordOf : ℕ → ℕ → ℕ → ℕ → ℕ
