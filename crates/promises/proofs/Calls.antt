@@ -17,7 +17,6 @@ use Rattle.frames.specs.Layout.{counterOf}
 use Rattle.state.specs.declared.Key.{Key}
 use Rattle.state.specs.declared.State.{State}
 use Rattle.state.specs.Parts.{noKey, powerOn}
-use Rattle.state.proofs.Inside.{no-key}
 use Rattle.state.proofs.Running.{no-job-idle}
 use Rattle.plan.specs.Storing.{allStored}
 use Rattle.arrival.specs.Arrival.{jobOf, taken}
@@ -34,15 +33,10 @@ use Rattle.progress.proofs.RunsWhole.{runs-whole}
 use Rattle.promises.specs.Compared.{Alike}
 use Rattle.promises.specs.Account.{Account, goneBy, worked, interrupted, cut}
 use Rattle.rules.specs.Formed.{Formed}
-use Rattle.rules.proofs.Kept.{whole-kept, whole-formed}
+use Rattle.rules.proofs.Kept.{formed-on, whole-kept, whole-formed}
 use Rattle.promises.proofs.Alikes.{alike-whole}
 use Rattle.promises.proofs.Sound.{Resting, started, Working, Sound}
 use Rattle.promises.proofs.Interrupted.{Left, header-as-if, left-behind}
-
--- the power-on state is formed
-pub formed-on : (image : List ℕ) → refusal image ≡ 0 → Formed image (powerOn .keys)
-formed-on image accepted =
-    record { laid = accepted-laid image accepted; four = refl; long = λ k. ap (λ (key : Key). length (key .bytes)) (no-key 4 k) }
 
 -- what is as if, as a device
 pub formed-as-if : (d : Device) (o : Outcome) → Formed (d .image) (d .state .keys) → SameHeader (d .image) (o .image) → Alike (outcome d) o → Formed (o .image) (o .keys)

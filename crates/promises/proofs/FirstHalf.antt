@@ -26,12 +26,13 @@ use Rattle.device.specs.Calls.{device, poweredUp, After, Call, PowerUp, Frame, 
 use Rattle.device.proofs.AfterCalls.{frame-accepted, work-accepted}
 use Rattle.progress.proofs.Runs.{run-idle}
 use Rattle.progress.proofs.Jobs.{runs}
+use Rattle.rules.proofs.Kept.{formed-on}
 use Rattle.promises.specs.Compared.{Alike}
 use Rattle.promises.specs.Orders.{allCalled}
 use Rattle.promises.specs.Account.{Account, goneBy, worked, cut, framed, accounted, account, begun}
 use Rattle.promises.proofs.Sound.{Resting, Working, Sound, rest-sound}
 use Rattle.promises.proofs.Interrupted.{below-now}
-use Rattle.promises.proofs.Calls.{formed-on, accepted-now, enabled-only, cut-off, taken-by, worked-by}
+use Rattle.promises.proofs.Calls.{accepted-now, enabled-only, cut-off, taken-by, worked-by}
 
 -- no call is refused
 module _ (a : Account) (sound : Sound a) where
