@@ -1,29 +1,24 @@
 -- Both ends, chained: what a host builds, the device takes, whatever work calls bring it to its end, and what the device replies the host
 -- reads as good. Each link is the page's, by the law that frame and work come to it. Assumes nothing.
-use Prim.Native.Nat.{ℕ, _<_}
-use mathlib.Core.Path.{_≡_, refl, ap, sym, subst, _∙_}
-use mathlib.Core.Bool.{true, false}
+use Prim.Native.Nat.{ℕ}
+use mathlib.Core.Path.{_≡_, ap, sym, _∙_}
+use mathlib.Core.Bool.{false}
 use mathlib.Core.List.{List, [], _∷_}
 use lib.ListN.{length, replicate}
 use Rattle.words.specs.Choice.{pick}
-use Rattle.words.specs.Words.{bytesOf}
-use Rattle.words.proofs.Back.{Bytes}
+use Rattle.words.specs.Words.{Bytes}
 use Rattle.image.specs.Slot.{slotOf, isSet, rootKey}
-use Rattle.frames.specs.declared.Class.the-variants.{CommandFrame, Read}
+use Rattle.frames.specs.declared.Class.the-variants.{CommandFrame}
 use Rattle.frames.specs.Classes.{classOf, namedClass}
-use Rattle.frames.specs.Reading.{readOutput}
-use Rattle.state.specs.declared.Key.{Key}
-use Rattle.rules.specs.Whole.{Outcome, keyIn, statusOnArrival, whole}
-use Rattle.device.specs.Frame.{outputAfter}
+use Rattle.rules.specs.Whole.{Outcome, whole}
 use Rattle.device.specs.Work.{Device}
-use Rattle.device.specs.Calls.{outcome, After, Frame, after}
+use Rattle.device.specs.Calls.{outcome, After}
 use Rattle.device.proofs.AfterCalls.{frame-accepted}
 use Rattle.host.specs.Frames.{newSessionKey, rootKeyFrame, sessionKeyFrame, requestFrame}
 use Rattle.exchange.specs.Built.{Built, RootKeyBuilt, SessionKeyBuilt, RequestBuilt, frameOf, Sized, InOrder, RootUnset, CounterSet, Paired, InSession}
 use Rattle.exchange.specs.Exchange.{Idle, Ends, readFrom, ReadsGood}
-use Rattle.exchange.proofs.Arrives.{typeBuilt, built-form, is-command, built-arrives}
-use Rattle.exchange.proofs.Carried.{its-key, its-value}
-use Rattle.exchange.proofs.Replies.{reading, read-as-good, value-handed-back}
+use Rattle.exchange.proofs.Arrives.{typeBuilt, built-form, is-command}
+use Rattle.exchange.proofs.Replies.{reading, read-as-good}
 use Rattle.exchange.proofs.Agreed.{root-key-agreed, session-key-agreed}
 use Rattle.exchange.proofs.Comes.{not-refused, comes-to-whole, idle-again}
 
@@ -60,51 +55,47 @@ module _
     (counter : ℕ) (key tag : List ℕ) (size : length tag ≡ 12) (value : ℕ) (d e : Device) (idle : Idle d)
     (session : InSession (outcome d) counter key value) (ends : Ends (requestFrame counter key tag) d e)
     (dummy : ℕ) (buffer : List ℕ) (room : length buffer ≡ 49) where
-  abbrev b : Built
-  b = RequestBuilt key tag
-
   long : length key ≡ 32
   long = ap length (sym (session .same-key)) ∙ idle .formed .long counter
 
-  same : keyIn (outcome d) (frameOf counter b) .bytes ≡ key
-  same = ap (λ (k : Key). k .bytes) (its-key (outcome d) counter b size) ∙ session .same-key
+  abbrev come : (outcome e ≡ whole (outcome d) (requestFrame counter key tag)) × Idle e
+  come = built-ends (RequestBuilt key tag) counter size d e idle ends
 
-  taken : statusOnArrival (d .image) (d .state .keys) (frameOf counter b) ≡ 0
-  taken = built-arrives b counter (outcome d) size (session .order) (session .counter-set, session .there)
-
-  abbrev come : (outcome e ≡ whole (outcome d) (frameOf counter b)) × Idle e
-  come = built-ends b counter size d e idle ends
-
-  as-read : readFrom e dummy buffer ≡ reading (outcome d) counter key tag long size same taken
+  as-read : readFrom e dummy buffer ≡ reading (outcome d) counter key tag value long size session
   unfolding classOf namedClass pick
   as-read =
-      let status : e .state .status ≡ whole (outcome d) (frameOf counter b) .status = ap (λ (o : Outcome). o .status) (come .0) in
-      let reply : e .state .reply ≡ whole (outcome d) (frameOf counter b) .reply = ap (λ (o : Outcome). o .reply) (come .0) in
-      ap (λ (r : After). r .output) (frame-accepted e (0x96 ∷ dummy ∷ []) buffer (not-refused e (come .1))) ∙ rw (ends .none, room, status, reply)
+      let status = ap (λ (o : Outcome). o .status) (come .0) in
+      let reply = ap (λ (o : Outcome). o .reply) (come .0) in
+      ap (λ (r : After). r .output) (frame-accepted e (0x96 ∷ dummy ∷ []) buffer (not-refused e (come .1)))
+      ∙ rw (ends .none, room, status, reply)
 
   pub request-answered : ReadsGood key tag (readFrom e dummy buffer) value
-  request-answered =
-      rw as-read (
-        read-as-good (outcome d) counter key tag long size same taken,
-        value-handed-back (outcome d) counter key tag long size same taken
-        ∙ ap bytesOf (its-value (outcome d) counter b size ∙ session .value-kept),
-      )
+  request-answered = rw as-read (read-as-good (outcome d) counter key tag value long size session)
 
 -- A counter with nothing set is paired, a session is opened under the root key, and a request is answered with 0: each frame is built by
 -- the host, and each is followed by work calls that leave the device idle.
-pub both-ends :
-    (d paired opened asked : Device) (counter : ℕ) (root keyData tag : List ℕ) (dummy : ℕ) (buffer : List ℕ) →
-    Idle d → InOrder (outcome d) counter → RootUnset (outcome d) counter → isSet (slotOf (d .image) counter .«counter_state») ≡ false →
-    length root ≡ 32 → Bytes root → (root ≡ replicate 32 255 → ⊥) → length keyData ≡ 4 → length tag ≡ 12 → length buffer ≡ 49 →
-    Ends (rootKeyFrame counter root) d paired → Ends (sessionKeyFrame counter root keyData) paired opened →
-    Ends (requestFrame counter (newSessionKey root keyData) tag) opened asked →
-    ReadsGood (newSessionKey root keyData) tag (readFrom asked dummy buffer) 0
-unfolding pick
-both-ends d paired opened asked counter root keyData tag dummy buffer idle order root-unset counter-unset long bytes lasting four twelve room first second third =
-    let in-use : Paired (outcome paired) counter root 0 =
-    rw counter-unset at (root-key-in-use counter root long bytes lasting d paired idle order root-unset first) in
-    let idle-paired = built-ends (RootKeyBuilt root) counter long d paired idle first .1 in
-    let shared =
-    session-key-shared counter root keyData four paired opened idle-paired (in-use .order) (in-use .counter-set) (in-use .root-key) second in
-    let idle-opened = built-ends (SessionKeyBuilt root keyData) counter four paired opened idle-paired second .1 in
-    request-answered counter (newSessionKey root keyData) tag twelve 0 opened asked idle-opened (rw (in-use .value-kept) at shared) third dummy buffer room
+module _
+    (d paired opened asked : Device) (counter : ℕ) (root keyData tag : List ℕ) (idle : Idle d) (order : InOrder (outcome d) counter)
+    (root-unset : RootUnset (outcome d) counter) (counter-unset : isSet (slotOf (d .image) counter .«counter_state») ≡ false)
+    (long : length root ≡ 32) (bytes : Bytes root) (lasting : root ≡ replicate 32 255 → ⊥) (four : length keyData ≡ 4)
+    (twelve : length tag ≡ 12) (first : Ends (rootKeyFrame counter root) d paired)
+    (second : Ends (sessionKeyFrame counter root keyData) paired opened)
+    (third : Ends (requestFrame counter (newSessionKey root keyData) tag) opened asked) where
+  in-use : Paired (outcome paired) counter root 0
+  unfolding pick
+  in-use = rw counter-unset at (root-key-in-use counter root long bytes lasting d paired idle order root-unset first)
+
+  shared : InSession (outcome opened) counter (newSessionKey root keyData) 0
+  shared =
+      let idle-paired = built-ends (RootKeyBuilt root) counter long d paired idle first .1 in
+      rw (in-use .value-kept) at
+      (session-key-shared counter root keyData four paired opened idle-paired (in-use .order) (in-use .counter-set) (in-use .root-key) second)
+
+  idle-opened : Idle opened
+  idle-opened =
+      let idle-paired = built-ends (RootKeyBuilt root) counter long d paired idle first .1 in
+      built-ends (SessionKeyBuilt root keyData) counter four paired opened idle-paired second .1
+
+  pub both-ends :
+      (dummy : ℕ) (buffer : List ℕ) → length buffer ≡ 49 → ReadsGood (newSessionKey root keyData) tag (readFrom asked dummy buffer) 0
+  both-ends = request-answered counter (newSessionKey root keyData) tag twelve 0 opened asked idle-opened shared third

@@ -7,10 +7,8 @@ use mathlib.Core.List.{List, [], _∷_}
 use lib.Dec.{eqb}
 use Rattle.words.specs.Choice.{pick}
 use Rattle.words.specs.Rows.{firstOf}
-use Rattle.image.specs.Header.{count}
 use Rattle.image.specs.Refusal.{refusal}
 use Rattle.image.proofs.Laid.{same-refusal}
-use Rattle.frames.specs.declared.Class.{Class}
 use Rattle.frames.specs.declared.Class.the-variants.{CommandFrame}
 use Rattle.frames.specs.Classes.{classOf}
 use Rattle.frames.specs.Layout.{counterOf}
@@ -22,9 +20,8 @@ use Rattle.arrival.specs.Arrival.{arrived}
 use Rattle.rules.specs.Formed.{Formed}
 use Rattle.rules.specs.Whole.{Outcome, whole}
 use Rattle.rules.proofs.Kept.{whole-kept, whole-formed}
-use Rattle.device.specs.Frame.{stateAfter}
 use Rattle.device.specs.Work.{Device, run, stepsDone}
-use Rattle.device.specs.Calls.{device, outcome, After, Frame, Work, after, called, afterWork, afterSteps, imageAfterWork}
+use Rattle.device.specs.Calls.{device, outcome, After, Frame, Work, called, afterWork, afterSteps, imageAfterWork}
 use Rattle.device.proofs.AfterCalls.{frame-accepted}
 use Rattle.progress.proofs.Runs.{run-add}
 use Rattle.progress.proofs.Ends.{same-end}
