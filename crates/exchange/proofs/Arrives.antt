@@ -59,7 +59,8 @@ pub built-form : (b : Built) (counter : ℕ) → Sized b → Form (typeBuilt b) 
 unfolding rootKeyFrame sessionKeyFrame incrementFrame requestFrame
 built-form (RootKeyBuilt key) counter size =
     let signature = field 4 28 (HMAC key (head 0 counter)) in
-    form-of 0 counter (key ++ signature) (omega arith) (omega (arith, length-append key signature, length-table (λ i. getD (HMAC key (head 0 counter)) (4 + i) 0) 28, size))
+    let short : length signature ≡ 28 = length-table _ 28 in
+    form-of 0 counter (key ++ signature) (omega arith) (omega (arith, length-append key signature, short, size))
 built-form (SessionKeyBuilt root keyData) counter size = signed-form 1 counter (newSessionKey root keyData) keyData (omega arith) (omega (arith, size))
 built-form (IncrementBuilt key value) counter size = signed-form 2 counter key value (omega arith) (omega (arith, size))
 built-form (RequestBuilt key tag) counter size = signed-form 3 counter key tag (omega arith) (omega (arith, size))
@@ -106,7 +107,8 @@ pub built-arrives :
     (b : Built) (counter : ℕ) (o : Outcome) → Sized b → InOrder o counter → Awaited o counter b →
     statusOnArrival (o .image) (o .keys) (frameOf counter b) ≡ 0
 unfolding pick
-built-arrives b counter o size order awaited = arrives (typeBuilt b) counter (frameOf counter b) (built-form b counter size) o order (state b awaited) (ready b awaited)
+built-arrives b counter o size order awaited =
+    arrives (typeBuilt b) counter (frameOf counter b) (built-form b counter size) o order (state b awaited) (ready b awaited)
   where
     state : (b : Built) → Awaited o counter b → wrongState (typeBuilt b) (slotOf (o .image) counter) ≡ false
     state (RootKeyBuilt key) unset = unset

@@ -19,10 +19,10 @@ use Rattle.state.proofs.Running.{no-job-idle}
 use Rattle.arrival.specs.Arrival.{arrived}
 use Rattle.rules.specs.Formed.{Formed}
 use Rattle.rules.specs.Whole.{Outcome, whole}
-use Rattle.rules.proofs.Kept.{whole-kept, whole-formed}
+use Rattle.rules.proofs.Kept.{formed-on, whole-kept, whole-formed}
 use Rattle.device.specs.Work.{Device, run, stepsDone}
-use Rattle.device.specs.Calls.{device, outcome, After, Frame, Work, called, afterWork, afterSteps, imageAfterWork}
-use Rattle.device.proofs.AfterCalls.{frame-accepted}
+use Rattle.device.specs.Calls.{device, outcome, After, PowerUp, Frame, Work, called, afterWork, afterSteps, imageAfterWork}
+use Rattle.device.proofs.AfterCalls.{any-power-up, frame-accepted}
 use Rattle.progress.proofs.Runs.{run-add}
 use Rattle.progress.proofs.Ends.{same-end}
 use Rattle.progress.proofs.RunsWhole.{runs-whole}
@@ -47,6 +47,10 @@ all-work (quota ∷ more) d =
     let first = works-by quota d _ refl in
     let rest = all-work more (called (Work quota) d) in
     record { steps = rest .steps + first .steps; ran = rest .ran ∙ ap (run (rest .steps)) (first .ran) ∙ sym (run-add (rest .steps) (first .steps) d) }
+
+-- a power-up on an accepted image leaves an idle device
+pub powered-up-idle : (d : Device) → refusal (d .image) ≡ 0 → Idle (called PowerUp d)
+powered-up-idle d accepted = rw (any-power-up d) (record { none = refl; accepted = accepted; formed = formed-on (d .image) accepted })
 
 pub not-refused : (d : Device) → Idle d → deviceRefusal (d .image) (d .state) ≡ 0
 unfolding jobRefusal firstOf pick
