@@ -1,12 +1,12 @@
 -- Both ends, chained: what a host builds, the device takes, whatever work calls bring it to its end, and what the device replies the host
 -- reads as good. Each link is the page's, by the law that frame and work come to it. Assumes nothing.
-use Prim.Native.Nat.{ℕ}
-use mathlib.Core.Path.{_≡_, ap, sym, _∙_}
+use Prim.Native.Nat.{ℕ, suc, _<_}
+use mathlib.Core.Path.{_≡_, refl, ap, sym, _∙_}
 use mathlib.Core.Bool.{false}
 use mathlib.Core.List.{List, [], _∷_}
 use lib.ListN.{length, replicate}
 use Rattle.words.specs.Choice.{pick}
-use Rattle.words.specs.Words.{Bytes}
+use Rattle.words.specs.Words.{Bytes, bytesOf}
 use Rattle.image.specs.Slot.{slotOf, isSet, rootKey}
 use Rattle.frames.specs.declared.Class.the-variants.{CommandFrame}
 use Rattle.frames.specs.Classes.{classOf, namedClass}
@@ -14,12 +14,14 @@ use Rattle.rules.specs.Whole.{Outcome, whole}
 use Rattle.device.specs.Work.{Device}
 use Rattle.device.specs.Calls.{outcome, After}
 use Rattle.device.proofs.AfterCalls.{frame-accepted}
-use Rattle.host.specs.Frames.{newSessionKey, rootKeyFrame, sessionKeyFrame, requestFrame}
-use Rattle.exchange.specs.Built.{Built, RootKeyBuilt, SessionKeyBuilt, RequestBuilt, frameOf, Sized, InOrder, RootUnset, CounterSet, Paired, InSession}
+use Rattle.host.specs.Frames.{newSessionKey, rootKeyFrame, sessionKeyFrame, incrementFrame, requestFrame}
+use Rattle.exchange.specs.Built.{Built, RootKeyBuilt, SessionKeyBuilt, IncrementBuilt, RequestBuilt, frameOf, Sized}
+use Rattle.exchange.specs.Built.{InOrder, RootUnset, CounterSet, Paired, InSession}
 use Rattle.exchange.specs.Exchange.{Idle, Ends, readFrom, ReadsGood}
 use Rattle.exchange.proofs.Arrives.{typeBuilt, built-form, is-command}
 use Rattle.exchange.proofs.Replies.{reading, read-as-good}
 use Rattle.exchange.proofs.Agreed.{root-key-agreed, session-key-agreed}
+use Rattle.exchange.proofs.Counted.{increment-counted}
 use Rattle.exchange.proofs.Comes.{not-refused, comes-to-whole, idle-again}
 
 -- a built frame, and work that leaves the device idle
@@ -49,6 +51,15 @@ module _
   session-key-shared =
       rw (built-ends (SessionKeyBuilt root keyData) counter size d e idle ends .0)
       (session-key-agreed (outcome d) (idle .formed) counter root keyData size order set-counter same-root)
+
+-- an increment of the value is counted: the counter stays in session, and its value is one more
+module _
+    (counter : ℕ) (key : List ℕ) (value : ℕ) (d e : Device) (idle : Idle d) (session : InSession (outcome d) counter key value)
+    (below : value < 0xFFFFFFFF) (ends : Ends (incrementFrame counter key (bytesOf value)) d e) where
+  pub value-counted : InSession (outcome e) counter key (suc value)
+  value-counted =
+      rw (built-ends (IncrementBuilt key (bytesOf value)) counter refl d e idle ends .0)
+      (increment-counted (outcome d) (idle .formed) counter key value session below)
 
 -- a request is answered: a read of 49 bytes is good, with the device's value
 module _
@@ -85,16 +96,16 @@ module _
   unfolding pick
   in-use = rw counter-unset at (root-key-in-use counter root long bytes lasting d paired idle order root-unset first)
 
-  shared : InSession (outcome opened) counter (newSessionKey root keyData) 0
-  shared =
-      let idle-paired = built-ends (RootKeyBuilt root) counter long d paired idle first .1 in
-      rw (in-use .value-kept) at
-      (session-key-shared counter root keyData four paired opened idle-paired (in-use .order) (in-use .counter-set) (in-use .root-key) second)
+  idle-paired : Idle paired
+  idle-paired = built-ends (RootKeyBuilt root) counter long d paired idle first .1
 
   idle-opened : Idle opened
-  idle-opened =
-      let idle-paired = built-ends (RootKeyBuilt root) counter long d paired idle first .1 in
-      built-ends (SessionKeyBuilt root keyData) counter four paired opened idle-paired second .1
+  idle-opened = built-ends (SessionKeyBuilt root keyData) counter four paired opened idle-paired second .1
+
+  shared : InSession (outcome opened) counter (newSessionKey root keyData) 0
+  shared =
+      rw (in-use .value-kept) at
+      (session-key-shared counter root keyData four paired opened idle-paired (in-use .order) (in-use .counter-set) (in-use .root-key) second)
 
   pub both-ends :
       (dummy : ℕ) (buffer : List ℕ) → length buffer ≡ 49 → ReadsGood (newSessionKey root keyData) tag (readFrom asked dummy buffer) 0
