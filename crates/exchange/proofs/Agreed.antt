@@ -9,8 +9,8 @@ use borrow.Author.Tests.{le-leb}
 use lib.ListN.{length, set, replicate}
 use lib.Seq.{getD-set-same}
 use Rattle.words.specs.Choice.{pick}
-use Rattle.words.specs.Words.{wordAt, wordsOf, bytesOfAll}
-use Rattle.words.proofs.Back.{Bytes, bytes-back}
+use Rattle.words.specs.Words.{Bytes, wordAt, wordOr0, wordsOf, bytesOfAll}
+use Rattle.words.proofs.Back.{bytes-back}
 use Rattle.words.proofs.Fields.{field-word}
 use Rattle.words.proofs.Table.{length-table, table-same}
 use Rattle.compare.proofs.Agree.{same-equal}
@@ -78,12 +78,14 @@ module _
 key-back : (counter : ℕ) (key : List ℕ) → length key ≡ 32 → Bytes key → keyBrought (frameKept (rootKeyFrame counter key)) ≡ key
 unfolding keyBrought wordsOf pick
 key-back counter key size bytes =
-    let sent = frameKept (rootKeyFrame counter key) in
-    let long : length sent ≡ 64 = length-table _ 64 in
-    ap bytesOfAll
-    (table-same _ _ 8
-    (λ i h. rw (le-leb (4 + 4 * i + 4) (length sent) (omega (arith, long))) (sym (field-word 4 32 sent (4 * i) (omega arith)) ∙ ap (λ (l : List ℕ). wordAt l (4 * i)) (root-key-sent counter key size))))
-    ∙ bytes-back key bytes 8 size
+    ap bytesOfAll (table-same _ _ 8 (λ i h. word i h)) ∙ bytes-back key bytes 8 size
+  where
+    word : (i : ℕ) → i < 8 → wordOr0 (frameKept (rootKeyFrame counter key)) (4 + 4 * i) ≡ wordAt key (4 * i)
+    word i h =
+        let sent = frameKept (rootKeyFrame counter key) in
+        let long : length sent ≡ 64 = length-table _ 64 in
+        rw (le-leb (4 + 4 * i + 4) (length sent) (omega (arith, long)))
+        (sym (field-word 4 32 sent (4 * i) (omega arith)) ∙ ap (λ (l : List ℕ). wordAt l (4 * i)) (root-key-sent counter key size))
 
 module _
     (o : Outcome) (formed : Formed (o .image) (o .keys)) (counter : ℕ) (key : List ℕ) (size : length key ≡ 32) (bytes : Bytes key)

@@ -23,7 +23,7 @@ use Rattle.frames.specs.Layout.{layoutOf, typeOf, counterOf, reservedOf}
 use Rattle.frames.proofs.Layouts.{long-frames}
 use Rattle.checks.specs.Checks.{wrongState, notReady, checksOf, arrivalStatus}
 use Rattle.rules.specs.Whole.{Outcome, statusOnArrival}
-use Rattle.host.specs.Frames.{head, signedBy, newSessionKey, rootKeyFrame, sessionKeyFrame, incrementFrame, requestFrame}
+use Rattle.host.specs.Frames.{head, signedBy, rootKeyFrame, sessionKeyFrame, incrementFrame, requestFrame}
 use Rattle.exchange.specs.Built.{Built, RootKeyBuilt, SessionKeyBuilt, IncrementBuilt, RequestBuilt, frameOf, Sized, sessionOf, InOrder, Awaited}
 
 -- the type of a built frame
@@ -59,10 +59,11 @@ pub built-form : (b : Built) (counter : ℕ) → Sized b → Form (typeBuilt b) 
 unfolding rootKeyFrame sessionKeyFrame incrementFrame requestFrame
 built-form (RootKeyBuilt key) counter size =
     let signature = field 4 28 (HMAC key (head 0 counter)) in
-    form-of 0 counter (key ++ signature) (omega arith) (omega (arith, length-append key signature, length-table (λ i. getD (HMAC key (head 0 counter)) (4 + i) 0) 28, size))
-built-form (SessionKeyBuilt root keyData) counter size = signed-form 1 counter (newSessionKey root keyData) keyData (omega arith) (omega (arith, size))
-built-form (IncrementBuilt key value) counter size = signed-form 2 counter key value (omega arith) (omega (arith, size))
-built-form (RequestBuilt key tag) counter size = signed-form 3 counter key tag (omega arith) (omega (arith, size))
+    let short : length signature ≡ 28 = length-table _ 28 in
+    form-of 0 counter (key ++ signature) (omega arith) (omega (arith, length-append key signature, short, size))
+built-form (SessionKeyBuilt root keyData) counter size = signed-form 1 counter _ keyData (omega arith) (omega (arith, size))
+built-form (IncrementBuilt key value) counter size = signed-form 2 counter _ value (omega arith) (omega (arith, size))
+built-form (RequestBuilt key tag) counter size = signed-form 3 counter _ tag (omega arith) (omega (arith, size))
 
 module _ (type counter : ℕ) (frame : List ℕ) (form : Form type counter frame) where
   pub is-command : classOf frame ≡ CommandFrame
@@ -106,7 +107,8 @@ pub built-arrives :
     (b : Built) (counter : ℕ) (o : Outcome) → Sized b → InOrder o counter → Awaited o counter b →
     statusOnArrival (o .image) (o .keys) (frameOf counter b) ≡ 0
 unfolding pick
-built-arrives b counter o size order awaited = arrives (typeBuilt b) counter (frameOf counter b) (built-form b counter size) o order (state b awaited) (ready b awaited)
+built-arrives b counter o size order awaited =
+    arrives (typeBuilt b) counter (frameOf counter b) (built-form b counter size) o order (state b awaited) (ready b awaited)
   where
     state : (b : Built) → Awaited o counter b → wrongState (typeBuilt b) (slotOf (o .image) counter) ≡ false
     state (RootKeyBuilt key) unset = unset

@@ -1,6 +1,6 @@
 -- A frame that the host builds with the device's keys passes all ten checks, so it is carried out: on arrival by its form and its
 -- counter, then by its signature, and of type 02 by the value that it names. Assumes nothing.
-use Prim.Native.Nat.{ℕ}
+use Prim.Native.Nat.{ℕ, _<_}
 use mathlib.Core.Path.{_≡_, refl, ap, sym, _∙_}
 use mathlib.Core.Bool.{Bool}
 use mathlib.Core.List.{List, _++_}
@@ -24,7 +24,8 @@ use Rattle.rules.specs.Whole.{Outcome, frameKept, kindIn, valueIn, keyIn, lastS
 use Rattle.rules.proofs.TenChecks.{all-checks}
 use Rattle.host.specs.Frames.{head, signedBy, rootKeyFrame, sessionKeyFrame, incrementFrame, requestFrame}
 use Rattle.exchange.specs.Passing.{Passes}
-use Rattle.exchange.specs.Built.{Built, RootKeyBuilt, SessionKeyBuilt, IncrementBuilt, RequestBuilt, frameOf, Sized, sessionOf, InOrder, Awaited, Agreed}
+use Rattle.exchange.specs.Built.{Built, RootKeyBuilt, SessionKeyBuilt, IncrementBuilt, RequestBuilt, frameOf}
+use Rattle.exchange.specs.Built.{Sized, sessionOf, InOrder, Awaited, Agreed, InSession}
 use Rattle.exchange.proofs.Fields.{data-sent}
 use Rattle.exchange.proofs.Passes.{root-key-passes, session-key-passes, increment-passes, request-passes}
 use Rattle.exchange.proofs.Arrives.{built-form, built-arrives}
@@ -51,10 +52,10 @@ module _ (o : Outcome) (counter : ℕ) where
   its-command (RequestBuilt key tag) = refl
 
   -- the session key that the device looks at is that of the counter
-  its-key : (b : Built) → Sized b → keyIn o (frameOf counter b) ≡ sessionOf o counter
+  pub its-key : (b : Built) → Sized b → keyIn o (frameOf counter b) ≡ sessionOf o counter
   its-key b size = rw (built-form b counter size .named)
 
-  its-value : (b : Built) → Sized b → valueIn o (frameOf counter b) ≡ slotOf (o .image) counter .value
+  pub its-value : (b : Built) → Sized b → valueIn o (frameOf counter b) ≡ slotOf (o .image) counter .value
   its-value b size = ap (λ (c : ℕ). slotOf (o .image) c .value) (built-form b counter size .named)
 
   -- check 8
@@ -73,7 +74,8 @@ module _ (o : Outcome) (counter : ℕ) where
       let sent = frameKept (signedBy key (head 2 counter ++ bytesOf value)) in
       let long : length sent ≡ 64 = length-table _ 64 in
       rw (le-leb 8 (length sent) (omega (arith, long)))
-      (sym (field-word 4 4 sent 0 (omega arith)) ∙ ap (λ (l : List ℕ). wordAt l 0) (data-sent key 2 counter (bytesOf value) 4 refl (omega arith)) ∙ omega arith)
+      (sym (field-word 4 4 sent 0 (omega arith))
+      ∙ ap (λ (l : List ℕ). wordAt l 0) (data-sent key 2 counter (bytesOf value) 4 refl (omega arith)) ∙ omega arith)
 
   -- checks 8 to 10
   last-pass : (b : Built) → Sized b → Agreed o counter b → lastStatus (commandBuilt b) o (frameOf counter b) ≡ 0
@@ -97,3 +99,14 @@ module _ (o : Outcome) (counter : ℕ) where
     pub built-carried-out : whole o (frameOf counter b) ≡ carriedOut (kindIn o (frameOf counter b)) o (frameOf counter b)
     unfolding whole pick
     built-carried-out = rw built-passes
+
+-- in session, an increment of the value and a request pass
+module _ (o : Outcome) (counter : ℕ) (key : List ℕ) (value : ℕ) (session : InSession o counter key value) where
+  pub increment-in-session : value < 0xFFFFFFFF → allChecks o (incrementFrame counter key (bytesOf value)) ≡ 0
+  increment-in-session below =
+      built-passes o counter (IncrementBuilt key (bytesOf value)) refl (session .order) (session .counter-set, session .there)
+      (session .same-key, ap bytesOf (session .value-kept), rw (session .value-kept) below)
+
+  pub request-in-session : (tag : List ℕ) → length tag ≡ 12 → allChecks o (requestFrame counter key tag) ≡ 0
+  request-in-session tag size =
+      built-passes o counter (RequestBuilt key tag) size (session .order) (session .counter-set, session .there) (session .same-key)

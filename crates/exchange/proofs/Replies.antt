@@ -7,7 +7,6 @@ use native.Mathlib.Omega.{arith}
 use borrow.Author.Tests.{lt-ltb, ne-eqb}
 use lib.ListN.{length, getD, length-append}
 use Rattle.words.specs.Choice.{pick}
-use Rattle.words.specs.Rows.{firstOf}
 use Rattle.words.specs.Words.{bytesOf}
 use Rattle.words.proofs.Table.{length-table, table-same, getD-table}
 use Rattle.words.specs.Table.{field}
@@ -16,17 +15,18 @@ use Rattle.hmac.specs.Hmac.{HMAC}
 use Rattle.hmac.proofs.Lengths.{length-HMAC}
 use Rattle.frames.specs.declared.Reply.{Reply}
 use Rattle.frames.specs.Reading.{readByte, readOutput}
+use Rattle.state.specs.declared.Key.{Key}
 use Rattle.jobs.specs.Jobs.{kindOf}
 use Rattle.jobs.specs.declared.Kind.the-variants.{Request}
-use Rattle.decision.specs.Decision.{decision}
-use Rattle.rules.proofs.TenChecks.{all-checks}
-use Rattle.rules.specs.Whole.{Outcome, frameKept, statusOnArrival, kindIn, valueIn, allChecks, carriedOut, whole, keyIn, lastStatus}
+use Rattle.rules.specs.Whole.{Outcome, frameKept, kindIn, valueIn, carriedOut, whole, keyIn}
 use Rattle.host.specs.Frames.{signedBy, requestFrame}
 use Rattle.host.specs.declared.Verdict.the-variants.{Good}
-use Rattle.host.specs.Reading.{readReply, GoodReply, partOf}
+use Rattle.host.specs.Reading.{GoodReply, partOf}
 use Rattle.host.proofs.Verdicts.{good-read}
+use Rattle.exchange.specs.Built.{RequestBuilt, InSession}
+use Rattle.exchange.specs.Exchange.{ReadsGood}
 use Rattle.exchange.proofs.Fields.{data-sent}
-use Rattle.exchange.proofs.Passes.{request-passes}
+use Rattle.exchange.proofs.Carried.{its-key, its-value, built-carried-out}
 
 abbrev shown : List ℕ → Reply
 shown bytes = record { there = true; bytes = bytes }
@@ -68,7 +68,9 @@ module _ (key tag : List ℕ) (value : ℕ) (long : length key ≡ 32) (size : l
         tag-length = size;
         reply-length = length-table (readByte false 0x80 (shown reply)) 49;
         status = getD-table (readByte false 0x80 (shown reply)) 49 0 0 (omega arith);
-        same-tag = field-back 0 12 reply (omega arith) ∙ rw (append-assoc tag (bytesOf value) (HMAC key said)) (field-between 0 12 [] tag (bytesOf value ++ HMAC key said) refl size);
+        same-tag =
+            field-back 0 12 reply (omega arith)
+            ∙ rw (append-assoc tag (bytesOf value) (HMAC key said)) (field-between 0 12 [] tag (bytesOf value ++ HMAC key said) refl size);
         signed =
             field-back 16 32 reply (omega arith)
             ∙ field-behind 16 32 said (HMAC key said) long-said (length-HMAC key said)
@@ -82,11 +84,10 @@ module _ (key tag : List ℕ) (value : ℕ) (long : length key ≡ 32) (size : l
       ∙ field-back 12 4 reply (omega arith)
       ∙ rw (append-assoc tag (bytesOf value) (HMAC key said)) (field-between 12 4 tag (bytesOf value) (HMAC key said) size refl)
 
--- a request that the host built with the counter's session key, and that checks 1 to 7 let through
+-- a request that the host built with the session key of a counter that is in session
 module _
-    (o : Outcome) (counter : ℕ) (key tag : List ℕ) (long : length key ≡ 32) (size : length tag ≡ 12)
-    (same : keyIn o (requestFrame counter key tag) .bytes ≡ key)
-    (taken : statusOnArrival (o .image) (o .keys) (requestFrame counter key tag) ≡ 0) where
+    (o : Outcome) (counter : ℕ) (key tag : List ℕ) (value : ℕ) (long : length key ≡ 32) (size : length tag ≡ 12)
+    (session : InSession o counter key value) where
   abbrev frame : List ℕ
   frame = requestFrame counter key tag
 
@@ -94,32 +95,33 @@ module _
   unfolding requestFrame signedBy kindOf pick
   kind-asked = refl
 
-  no-check-fails : allChecks o frame ≡ 0
-  unfolding lastStatus decision firstOf pick
-  no-check-fails = rw (all-checks o frame, taken, kind-asked, request-passes o counter key tag size same)
-
   tag-kept : field 4 12 (frameKept frame) ≡ tag
   unfolding requestFrame
   tag-kept = data-sent key 3 counter tag 12 size (omega arith)
 
+  key-used : keyIn o frame .bytes ≡ key
+  key-used = ap (λ (k : Key). k .bytes) (its-key o counter (RequestBuilt key tag) size) ∙ session .same-key
+
+  value-told : valueIn o frame ≡ value
+  value-told = its-value o counter (RequestBuilt key tag) size ∙ session .value-kept
+
   -- its whole-frame result: 80h, and the reply
-  answered : (whole o frame .status ≡ 0x80) × (whole o frame .reply ≡ shown (reply key tag (valueIn o frame) long size))
-  unfolding whole carriedOut pick
+  answered : (whole o frame .status ≡ 0x80) × (whole o frame .reply ≡ shown (reply key tag value long size))
+  unfolding carriedOut
   answered =
-      rw (no-check-fails, kind-asked)
-      (refl, rw (tag-kept, same))
+      let done =
+      built-carried-out o counter (RequestBuilt key tag) size (session .order) (session .counter-set, session .there) (session .same-key) in
+      rw (done, kind-asked) (refl, rw (tag-kept, key-used, value-told))
 
   -- what a read of 49 bytes gives then
   abbrev pub reading : List ℕ
   reading = readOutput false (whole o frame .status) (whole o frame .reply) 49
 
-  as-read : reading ≡ readBack (reply key tag (valueIn o frame) long size)
+  as-read : reading ≡ readBack (reply key tag value long size)
   as-read = rw (answered .0, answered .1)
 
-  -- is read as good,
-  pub read-as-good : readReply key tag reading ≡ Good
-  read-as-good = rw as-read (good-read key tag _ (good key tag (valueIn o frame) long size))
-
-  -- and the part is the device's counter value
-  pub value-handed-back : partOf (readReply key tag reading) reading ≡ bytesOf (valueIn o frame)
-  value-handed-back = rw (read-as-good, as-read) (part-back key tag (valueIn o frame) long size)
+  -- is read as good, and the part is the counter value
+  pub read-as-good : ReadsGood key tag reading value
+  read-as-good =
+      let verdict = good-read key tag _ (good key tag value long size) in
+      rw as-read (verdict, rw verdict (part-back key tag value long size))

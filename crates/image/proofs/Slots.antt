@@ -142,3 +142,17 @@ frontSlot front = record { «root_state» = wordAt front 0; «counter_state» = 
 
 pub slot-in : (image : List ℕ) (c : ℕ) → Laid image → c < count image → slotOf image c ≡ frontSlot (slotBytes image c)
 slot-in image c laid below = rw (← root-in image c laid below, ← counter-in image c laid below, ← value-in image c laid below)
+
+-- a word stored at the value's place changes the value alone
+pub value-stored :
+    (image : List ℕ) (c w : ℕ) → Laid image → c < count image →
+    slotOf (withWord image (slotAt image c + 8) w) c ≡
+    record { «root_state» = slotOf image c .«root_state»; «counter_state» = slotOf image c .«counter_state»; value = w }
+unfolding slotOf
+value-stored image c w laid below =
+    let after = withWord image (slotAt image c + 8) w in
+    let inside : 8 + 4 ≤ slotSize image = omega (arith, wide image laid) in
+    let place : (l : List ℕ) → slotAt l c ≡ slotAt l c + 0 = λ l. omega arith in
+    let root : wordOr0 after (slotAt after c) ≡ wordOr0 image (slotAt image c) =
+    ap (wordOr0 after) (place after) ∙ word-beside image c 8 w laid below inside 0 (inl (omega arith)) ∙ ap (wordOr0 image) (sym (place image)) in
+    rw (root, word-beside image c 8 w laid below inside 4 (inl (omega arith)), word-stored image c 8 w laid below inside)

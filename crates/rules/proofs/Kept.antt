@@ -1,5 +1,5 @@
--- What a frame run whole leaves alone: the header and the session keys of other counters; so what frames start from stays so. Assumes
--- nothing.
+-- The power-on state is what frames start from, and a frame run whole leaves it so: the header and the session keys of other counters
+-- are left alone, and a new session key is as long as an old one. Assumes nothing.
 use Prim.Native.Nat.{ℕ, _<_}
 use mathlib.Core.Path.{_≡_, refl, ap, _∙_}
 use mathlib.Core.Bool.{Bool, true, false}
@@ -10,18 +10,25 @@ use lib.Dec.{eqb}
 use lib.ListN.{length, getD, length-set}
 use lib.Seq.{getD-set-same, getD-set-other}
 use Rattle.hmac.proofs.Lengths.{length-HMAC}
-use Rattle.image.proofs.Laid.{SameHeader, same-header, same-laid}
+use Rattle.image.specs.Refusal.{refusal}
+use Rattle.image.proofs.Laid.{SameHeader, same-header, same-laid, accepted-laid}
 use Rattle.image.specs.Laid.{Laid}
 use Rattle.jobs.specs.Jobs.{commandOf}
 use Rattle.jobs.specs.declared.Kind.{Kind}
 use Rattle.jobs.specs.declared.Kind.the-variants.{RootKeyAndCounter, RootKey, SessionKey, Increment, Request, TemporaryKeyAndCounter, TemporaryKey}
 use Rattle.frames.specs.Layout.{counterOf}
 use Rattle.state.specs.declared.Key.{Key}
-use Rattle.state.specs.Parts.{noKey}
+use Rattle.state.specs.Parts.{noKey, powerOn}
+use Rattle.state.proofs.Inside.{no-key}
 use Rattle.plan.proofs.InSlot.{made}
 use Rattle.rules.specs.Whole.{Outcome, frameKept, statusOnArrival, kindIn, valueIn, keptAfter, keysAfter, failedWith, carriedOut, whole, newSessionKey}
 use Rattle.rules.specs.Formed.{Formed}
 use Rattle.rules.proofs.Taken.{below-count, one-end}
+
+-- the power-on state is formed
+pub formed-on : (image : List ℕ) → refusal image ≡ 0 → Formed image (powerOn .keys)
+formed-on image accepted =
+    record { laid = accepted-laid image accepted; four = refl; long = λ k. ap (λ (key : Key). length (key .bytes)) (no-key 4 k) }
 
 pub record Kept (d : Outcome) (frame : List ℕ) (o : Outcome) : Type 0 where
   pub header : SameHeader (o .image) (d .image)

@@ -1,0 +1,86 @@
+-- A device that takes a command frame and then is worked until it is idle has come to the whole-frame result, whatever the quotas: a
+-- work call does some steps, none if it is refused, and all of them come to the end of the job. Assumes nothing.
+use Prim.Native.Nat.{ℕ, _+_}
+use mathlib.Core.Path.{_≡_, refl, ap, sym, subst, _∙_}
+use mathlib.Core.Bool.{Bool, true, false}
+use mathlib.Core.List.{List, [], _∷_}
+use lib.Dec.{eqb}
+use Rattle.words.specs.Choice.{pick}
+use Rattle.words.specs.Rows.{firstOf}
+use Rattle.image.specs.Refusal.{refusal}
+use Rattle.image.proofs.Laid.{same-refusal}
+use Rattle.frames.specs.declared.Class.the-variants.{CommandFrame}
+use Rattle.frames.specs.Classes.{classOf}
+use Rattle.frames.specs.Layout.{counterOf}
+use Rattle.jobs.specs.Jobs.{longest}
+use Rattle.state.specs.Refusal.{isRunning, jobRefusal, deviceRefusal}
+use Rattle.state.proofs.Refused.{device-refusal}
+use Rattle.state.proofs.Running.{no-job-idle}
+use Rattle.arrival.specs.Arrival.{arrived}
+use Rattle.rules.specs.Formed.{Formed}
+use Rattle.rules.specs.Whole.{Outcome, whole}
+use Rattle.rules.proofs.Kept.{formed-on, whole-kept, whole-formed}
+use Rattle.device.specs.Work.{Device, run, stepsDone}
+use Rattle.device.specs.Calls.{device, outcome, After, PowerUp, Frame, Work, called, afterWork, afterSteps, imageAfterWork}
+use Rattle.device.proofs.AfterCalls.{any-power-up, frame-accepted}
+use Rattle.progress.proofs.Runs.{run-add}
+use Rattle.progress.proofs.Ends.{same-end}
+use Rattle.progress.proofs.RunsWhole.{runs-whole}
+use Rattle.exchange.specs.Exchange.{Idle, allWorked, Ends}
+
+-- some steps lead from a device to another
+record Runs (d e : Device) : Type 0 where
+  steps : ℕ
+  ran : e ≡ run steps d
+
+-- a work call does some
+works-by : (quota : ℕ) (d : Device) (b : Bool) → eqb (deviceRefusal (d .image) (d .state)) 0 ≡ b → Runs d (called (Work quota) d)
+unfolding afterWork imageAfterWork afterSteps run pick
+works-by quota d true e = record { steps = stepsDone quota d; ran = rw e }
+works-by quota d false e = record { steps = 0; ran = rw e }
+
+-- and so do several
+all-work : (quotas : List ℕ) (d : Device) → Runs d (allWorked quotas d)
+unfolding allWorked run
+all-work [] d = record { steps = 0; ran = refl }
+all-work (quota ∷ more) d =
+    let first = works-by quota d _ refl in
+    let rest = all-work more (called (Work quota) d) in
+    record { steps = rest .steps + first .steps; ran = rest .ran ∙ ap (run (rest .steps)) (first .ran) ∙ sym (run-add (rest .steps) (first .steps) d) }
+
+-- a power-up on an accepted image leaves an idle device
+pub powered-up-idle : (d : Device) → refusal (d .image) ≡ 0 → Idle (called PowerUp d)
+powered-up-idle d accepted = rw (any-power-up d) (record { none = refl; accepted = accepted; formed = formed-on (d .image) accepted })
+
+pub not-refused : (d : Device) → Idle d → deviceRefusal (d .image) (d .state) ≡ 0
+unfolding jobRefusal firstOf pick
+not-refused d idle = rw (device-refusal (d .image) (d .state), idle .accepted, idle .none)
+
+module _ (d : Device) (idle : Idle d) (frame : List ℕ) (command : classOf frame ≡ CommandFrame) where
+  abbrev start : Device
+  start = device (d .image) (arrived (d .image) (d .state) frame)
+
+  taken : (output : List ℕ) → called (Frame frame output) d ≡ start
+  unfolding pick
+  taken output = ap (λ (r : After). r .device) (frame-accepted d frame output (not-refused d idle)) ∙ rw (command, idle .none)
+
+  module _ (e : Device) (ends : Ends frame d e) where
+    at-its-end : e ≡ run longest start
+    at-its-end =
+        let work = all-work (ends .quotas) start in
+        let came : e ≡ run (work .steps) start = sym (ends .worked) ∙ ap (allWorked (ends .quotas)) (taken (ends .output)) ∙ work .ran in
+        came ∙ same-end (work .steps) start (ap (λ (x : Device). isRunning (x .state)) (sym came) ∙ no-job-idle (e .state) (ends .none))
+
+    pub comes-to-whole : outcome e ≡ whole (outcome d) frame
+    comes-to-whole = ap outcome at-its-end ∙ runs-whole d frame (idle .none) (idle .formed .long (counterOf frame))
+
+    pub idle-again : Idle e
+    idle-again =
+        record {
+          none = ends .none;
+          accepted =
+              ap (λ (o : Outcome). refusal (o .image)) comes-to-whole
+              ∙ same-refusal (whole (outcome d) frame .image) (d .image) (whole-kept (outcome d) frame (idle .formed .laid) .header)
+              ∙ idle .accepted;
+          formed = subst (λ (o : Outcome). Formed (o .image) (o .keys)) (sym comes-to-whole) (whole-formed (outcome d) frame (idle .formed));
+        }
