@@ -5,4 +5,5 @@ pub mod WholeOwn
 pub mod Unseen
 pub mod Cuts
 pub mod Alikes
+pub mod InARow
 pub mod SecondHalf

@@ -160,7 +160,9 @@ pub at-rest : (l : Ledger) (d : Device) → Sound l d → isBusy d ≡ false →
 at-rest l d sound none = rests-by (l .pending) (l .asIf) d (sound .state) none
 
 -- the job that is there is that of the frame under way
-job-of : (p : Pending) (o : Outcome) (d : Device) → AsPending p o d → (frame : List ℕ) (done : ℕ) → p ≡ Doing frame done → JobOf frame done o (d .state .job)
+job-of :
+    (p : Pending) (o : Outcome) (d : Device) → AsPending p o d → (frame : List ℕ) (done : ℕ) → p ≡ Doing frame done →
+    JobOf frame done o (d .state .job)
 job-of p o d state frame done e =
     let w = subst (λ (q : Pending). AsPending q o d) e state .0 in
     record {

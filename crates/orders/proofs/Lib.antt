@@ -6,3 +6,5 @@ pub mod Interrupted
 pub mod Calls
 pub mod Ledger
 pub mod ItEnds
+pub mod Schedules
+pub mod Commutes

@@ -2,3 +2,4 @@
 pub mod Orders
 pub mod Ledger
 pub mod InStep
+pub mod Schedules

@@ -31,7 +31,9 @@ use Rattle.counters.proofs.SecondHalf.{same-counter, same-session, same-statuse
 use Rattle.orders.specs.Orders.{allCalled, answers, lastLeft}
 use Rattle.orders.specs.Ledger.{ledger, opened, isDoing}
 use Rattle.orders.specs.InStep.{InStep}
+use Rattle.orders.specs.Schedules.{NoRestart, framesTaken, finals}
 use Rattle.orders.proofs.Ledger as Ledger
+use Rattle.orders.proofs.Commutes as Commutes
 use Rattle.orders.proofs.ItEnds as ItEnds
 use Rattle.promises.specs.Functions.{Did, Ran}
 use Rattle.promises.specs.Examples.{Example, Ready, Given, script, Seen}
@@ -110,6 +112,24 @@ counters-commute c fs gs o formed order =
 
 pub two-bytes-fail : (o : Outcome) (frame : List ℕ) → length frame ≤ 2 → whole o frame ≡ failedWith 0x04 o
 two-bytes-fail = TooShort.two-bytes-fail
+
+-- The same of the device, for any schedule. After any calls that leave it idle, two orders of calls without a reset or a power cut,
+-- with any quotas of steps, reads and frames that are ignored, both of which leave it idle; the frames taken for a counter are the same,
+-- in the same order. Then so is what is compared of the counter, its session key, and the final status of each of its frames.
+pub device-commutes :
+    (image : List ℕ) (accepted : refusal image ≡ 0) (calls : List Call) → isBusy (allCalled calls (device image powerOn)) ≡ false →
+    (xs ys : List Call) → NoRestart xs (ledger calls (opened image)) → NoRestart ys (ledger calls (opened image)) →
+    isBusy (allCalled xs (allCalled calls (device image powerOn))) ≡ false →
+    isBusy (allCalled ys (allCalled calls (device image powerOn))) ≡ false →
+    (c : ℕ) → ownFrames c (framesTaken xs (ledger calls (opened image))) ≡ ownFrames c (framesTaken ys (ledger calls (opened image))) →
+    (c < count (allCalled calls (device image powerOn) .image) →
+    counterIn (allCalled xs (allCalled calls (device image powerOn)) .image) c ≡
+    counterIn (allCalled ys (allCalled calls (device image powerOn)) .image) c)
+    × (getD (allCalled xs (allCalled calls (device image powerOn)) .state .keys) c noKey ≡
+    getD (allCalled ys (allCalled calls (device image powerOn)) .state .keys) c noKey)
+    × (finals c xs (ledger calls (opened image)) (allCalled calls (device image powerOn)) ≡
+    finals c ys (ledger calls (opened image)) (allCalled calls (device image powerOn)))
+device-commutes = Commutes.device-commutes
 
 -- "So busy clears after at most 15 steps", which the longest job has: after as many no job runs, of any device, and a work call with
 -- that quota leaves the device idle after any calls; a job that is there is older by the steps that each call reports. A command frame
