@@ -73,7 +73,7 @@ below-by : (n left : ℕ) (b : Bool) → ltb n left ≡ b → ltb 0 (left - n) �
 below-by n left true e = lt-ltb 0 (left - n) (omega (arith, ltb-true n left e)) ∙ sym e
 below-by n left false e = le-ltb 0 (left - n) (omega (arith, ltb-false n left e)) ∙ sym e
 
-pub runs-below : (n : ℕ) (d : Device) → isRunning (run n d .state) ≡ ltb n (stepsLeft d)
+runs-below : (n : ℕ) (d : Device) → isRunning (run n d .state) ≡ ltb n (stepsLeft d)
 runs-below n d = runs-left-by (run n d) _ refl ∙ ap (ltb 0) (left-run n d) ∙ below-by n (stepsLeft d) _ refl
 
 -- and the number of steps for which a job runs is that of the steps left

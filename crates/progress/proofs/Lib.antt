@@ -1,4 +1,4 @@
--- The laws of a device's run, and that it comes to the whole-frame page.
+-- The laws of a device's run, that it comes to the whole-frame page, and after how many steps.
 pub mod Runs
 pub mod Hashing
 pub mod Stores
@@ -8,6 +8,7 @@ pub mod Ends
 pub mod Storing
 pub mod Ended
 pub mod Checked
-pub mod Going
-pub mod Steps
 pub mod RunsWhole
+pub mod Steps
+pub mod Kept
+pub mod Adds

@@ -22,7 +22,7 @@ use Rattle.steps.specs.Ending.{withKey, finishedBy}
 use Rattle.steps.specs.Deciding.{withKept}
 use Rattle.steps.proofs.AfterCheck.{passed}
 use Rattle.arrival.specs.Arrival.{taken, arrived}
-use Rattle.rules.specs.Whole.{frameKept, statusOnArrival, valueIn, keptAfter, imageAfter, failedWith, carriedOut, kindIn, allChecks, whole, keyIn, lastStatus}
+use Rattle.rules.specs.Whole.{frameKept, statusOnArrival, valueIn, keptAfter, imageAfter, failedWith, carriedOut, kindIn, whole, keyIn, lastStatus}
 use Rattle.rules.proofs.TenChecks.{all-checks}
 use Rattle.arrival.proofs.Arrives.{arrived-fails}
 use Rattle.device.specs.Work.{Device, run}
@@ -113,7 +113,8 @@ runs-by :
     outcome (run longest (device (d .image) (arrived (d .image) (d .state) frame))) ≡ whole (outcome d) frame
 unfolding whole taken pick failedWith
 runs-by d frame idle formed true e =
-    rw (frame-starts d frame e, all-checks (outcome d) frame, e) (whole-kind d frame formed (kindIn (outcome d) frame) (checked d frame formed (kindIn (outcome d) frame)))
+    let kind = kindIn (outcome d) frame in
+    rw (frame-starts d frame e, all-checks (outcome d) frame, e) (whole-kind d frame formed kind (checked d frame formed kind))
 runs-by d frame idle formed false e =
     rw (
       arrived-fails (d .image) (d .state) frame e,
@@ -123,8 +124,8 @@ runs-by d frame idle formed false e =
       e,
     )
 
--- A command frame that finds the device idle, and the steps after it, at most those of the longest job, come to what the page says. A session key
--- has 32 bytes in every state of the type.
+-- A command frame that finds the device idle, and the steps after it, at most those of the longest job, come to what the page says. A
+-- session key has 32 bytes in every state of the type.
 pub runs-whole :
     (d : Device) (frame : List ℕ) → d .state .job .there ≡ false → length (keyIn (outcome d) frame .bytes) ≡ 32 →
     outcome (run longest (device (d .image) (arrived (d .image) (d .state) frame))) ≡ whole (outcome d) frame

@@ -5,7 +5,7 @@ use mathlib.Core.Path.{_≡_, refl, ap, sym, _∙_}
 use mathlib.Core.Bool.{Bool, true, false}
 use mathlib.Core.List.{List}
 use native.Mathlib.Omega.{arith}
-use borrow.Author.Tests.{ltb-true, ltb-false, lt-ltb, le-ltb, eqb-true, ne-eqb}
+use borrow.Author.Tests.{ltb-true, ltb-false, le-ltb, eqb-true, ne-eqb}
 use lib.Dec.{ltb, eqb}
 use lib.ListN.{length}
 use Rattle.words.specs.Choice.{pick}
@@ -19,17 +19,18 @@ use Rattle.state.specs.Refusal.{isRunning}
 use Rattle.state.proofs.Running.{no-job-idle}
 use Rattle.plan.specs.Storing.{allStored}
 use Rattle.steps.proofs.AfterCheck.{decided-good, decided-bad}
+use Rattle.steps.proofs.Going.{passed-there, step-there}
 use Rattle.arrival.specs.Arrival.{taken, arrived}
 use Rattle.arrival.proofs.Arrives.{arrived-fails}
-use Rattle.rules.specs.Whole.{frameKept, kindIn, valueIn, keyIn, statusOnArrival, lastStatus}
+use Rattle.rules.specs.Whole.{frameKept, kindIn, valueIn, keyIn, statusOnArrival, lastStatus, whole}
 use Rattle.device.specs.Work.{Device, stepped, run, stepsLeft}
 use Rattle.device.specs.Calls.{device, isBusy, outcome}
 use Rattle.progress.specs.Steps.{stepsOfJob, stepsOf}
 use Rattle.progress.proofs.Runs.{run-posted, run-not-taken, run-add}
 use Rattle.progress.proofs.Jobs.{At, runs, progress}
-use Rattle.progress.proofs.Ends.{left-run, left-is}
+use Rattle.progress.proofs.Ends.{left-run, left-is, same-end}
 use Rattle.progress.proofs.Checked.{start, asked, frame-starts, Checked, checked}
-use Rattle.progress.proofs.Going.{passed-there, step-there}
+use Rattle.progress.proofs.RunsWhole.{runs-whole}
 
 -- a job of a kind, from its start
 module _ (d : Device) (frame : List ℕ) (kind : Kind) (c : Checked d frame kind) where
@@ -173,6 +174,12 @@ module _ (d : Device) (frame : List ℕ) (idle : isBusy d ≡ false) (formed : l
       let w = working-at n busy in
       runs _ _ _ _ n _ _ (w .0) (w .1)
   runs-by n false gone = no-job-idle (run n begun .state) gone
+
+  -- from it on it is as the page says
+  pub whole-after : (n : ℕ) → stepsOf (outcome d) frame ≤ n → outcome (run n begun) ≡ whole (outcome d) frame
+  whole-after n all =
+      let gone = runs-by n _ refl ∙ busy-below n ∙ le-ltb n (stepsOf (outcome d) frame) all in
+      ap outcome (same-end n begun gone) ∙ runs-whole d frame idle formed
 
   -- the steps left: all of them at first, and after n steps n less
   pub steps-left : stepsLeft begun ≡ stepsOf (outcome d) frame

@@ -1,2 +1,3 @@
--- How many steps a frame takes.
+-- How many steps a frame takes, and which bytes a job spares.
 pub mod Steps
+pub mod Spared

@@ -1,4 +1,4 @@
--- A job that runs has a step left, and where there is no job none runs. Assumes nothing.
+-- A job that runs is there and has a step left, and where there is no job none runs. Assumes nothing.
 use Prim.Native.Nat.{_<_}
 use mathlib.Core.Path.{_≡_}
 use mathlib.Core.Bool.{true, false}
@@ -8,6 +8,10 @@ use Rattle.words.proofs.Choice.{both}
 use Rattle.jobs.specs.Jobs.{lengthOf}
 use Rattle.state.specs.declared.State.{State}
 use Rattle.state.specs.Refusal.{isRunning}
+
+pub running-there : (s : State) → isRunning s ≡ true → s .job .there ≡ true
+unfolding isRunning
+running-there s e = both (s .job .there) _ e .0
 
 pub step-left : (s : State) → isRunning s ≡ true → s .job .step < lengthOf (s .job .kind)
 unfolding isRunning

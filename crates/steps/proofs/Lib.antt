@@ -1,6 +1,7 @@
--- The laws of one more step, what a step keeps of a job, what a step stores, that it leaves less of a job, and that each public function has one answer only.
+-- The laws of one more step, that a job goes on, what a step keeps of it, what a step stores, that it leaves less of a job, and that each public function has one answer only.
 pub mod Advancing
 pub mod AfterCheck
+pub mod Going
 pub mod Keeps
 pub mod StoreSteps
 pub mod Less

@@ -15,6 +15,12 @@ unfolding pick
 both true t e = (refl, e)
 both false t e = absurd (never e)
 
+-- where the first holds and not both do, the second does not
+pub not-both : (s t : Bool) → pick s t false ≡ false → s ≡ true → t ≡ false
+unfolding pick
+not-both true t e first = e
+not-both false t e first = absurd (never first)
+
 -- what holds of both, each where its test leads to it, holds of the one picked
 pub either :
     {A : Type 0} (P : A → Type 0) (t : Bool) (a b : A) → (t ≡ true → P a) → (t ≡ false → P b) → P (pick t a b)

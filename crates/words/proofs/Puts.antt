@@ -1,5 +1,5 @@
 -- What a stored word changes of a field: inside it these four bytes, outside nothing; and what it changes of the words: the one at
--- its place is the word stored, and one that is apart from it stays. Assumes nothing.
+-- its place is the word stored, and one that is apart from it stays, as does each byte and the length. Assumes nothing.
 use Prim.Native.Nat.{ℕ, _+_, _/_, _%_, _≤_, _<_}
 use mathlib.Core.Path.{_≡_, refl, ap, sym, _∙_}
 use mathlib.Core.Logic.{⊎-elim, _⊎_, inl, inr}
@@ -125,3 +125,17 @@ word-kept s i j w apart =
 pub word-apart : (s : List ℕ) (i j w : ℕ) → Apart i j → wordOr0 (withWord s j w) i ≡ wordOr0 s i
 word-apart s i j w apart =
     either (λ (l : List ℕ). wordOr0 l i ≡ wordOr0 s i) (inside s j) (putWord s j w) s (λ _. word-kept s i j w apart) (λ _. refl)
+
+-- the length, and a byte apart from a store
+pub length-with : (s : List ℕ) (j w : ℕ) → length (withWord s j w) ≡ length s
+length-with s j w =
+    either (λ (l : List ℕ). length l ≡ length s) (inside s j) (putWord s j w) s (λ _. length-put s j w) (λ _. refl)
+
+byte-field : (s : List ℕ) (i : ℕ) → getD s i 0 ≡ getD (field i 1 s) 0 0
+unfolding table
+byte-field s i = ap (λ (k : ℕ). getD s k 0) (omega arith)
+
+pub byte-apart : (s : List ℕ) (i j w : ℕ) → (j + 4 ≤ i) ⊎ (i + 1 ≤ j) → getD (withWord s j w) i 0 ≡ getD s i 0
+byte-apart s i j w apart =
+    either (λ (l : List ℕ). getD l i 0 ≡ getD s i 0) (inside s j) (putWord s j w) s
+    (λ _. byte-field (putWord s j w) i ∙ ap (λ (l : List ℕ). getD l 0 0) (field-put-out i 1 j w s apart) ∙ sym (byte-field s i)) (λ _. refl)

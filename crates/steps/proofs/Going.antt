@@ -1,26 +1,23 @@
--- temp
+-- A job goes on: a step that is not the last of its kind leaves the job there, but for the step of a check that fails. Assumes nothing.
 use Prim.Native.Nat.{ℕ, _+_}
-use mathlib.Core.Path.{_≡_, refl, ap, _∙_}
+use mathlib.Core.Path.{_≡_, ap, _∙_}
 use mathlib.Core.Bool.{true, false}
 use mathlib.Core.List.{List}
 use lib.Dec.{eqb}
 use Rattle.words.specs.Choice.{pick}
-use Rattle.words.proofs.Choice.{both, either}
+use Rattle.words.proofs.Choice.{either}
 use Rattle.jobs.specs.Jobs.{commandOf, signatureSteps}
 use Rattle.state.specs.declared.State.{State}
 use Rattle.state.specs.Refusal.{isRunning}
+use Rattle.state.proofs.Running.{running-there}
 use Rattle.signing.specs.Hashed.{withBlock, hashed}
 use Rattle.steps.specs.Ending.{withStep, isLast, advanced}
 use Rattle.steps.specs.Deciding.{withKept, hashStep}
 use Rattle.steps.specs.Step.{isHash, stepState}
 use Rattle.steps.proofs.Advancing.{on-from}
 use Rattle.steps.proofs.AfterCheck.{passed}
 
-pub running-there : (s : State) → isRunning s ≡ true → s .job .there ≡ true
-unfolding isRunning
-running-there s e = both (s .job .there) _ e .0
-
--- a step that is not the last of its kind leaves the job there
+-- one more step is done, not the last
 advanced-there : (s : State) → isLast s ≡ false → advanced s .job .there ≡ s .job .there
 unfolding withStep
 advanced-there s more = ap (λ (t : State). t .job .there) (on-from s more)
@@ -30,7 +27,7 @@ pub passed-there : (s : State) (value : ℕ) → isLast s ≡ false → passed s
 unfolding withKept
 passed-there s value more = advanced-there (withKept s _) more
 
--- and where none is made
+-- a step in which no check is made
 pub step-there :
     (image : List ℕ) (s : State) → isRunning s ≡ true → isLast s ≡ false →
     eqb (s .job .step + 1) (signatureSteps (commandOf (s .job .kind))) ≡ false → stepState image s .job .there ≡ true
