@@ -92,6 +92,18 @@ module _ (image : List ℕ) (keys : List Key) (counter : ℕ) (frame root chain 
   four-steps Increment = refl
   four-steps Request = refl
 
+  -- and not before the fourth of them: the job is still there, with its status
+  pub before-the-check :
+      (kind : Kind) → (run 3 (device image (begun kind)) .state .job .there ≡ true) × (run 3 (device image (begun kind)) .state .status ≡ 0x01)
+  unfolding run stepped stepState stepImage isRunning pick hashStep hashed withBlock blockDone quarterOf innerAfter advanced withStep
+  before-the-check RootKeyAndCounter = (refl, refl)
+  before-the-check RootKey = (refl, refl)
+  before-the-check TemporaryKeyAndCounter = (refl, refl)
+  before-the-check TemporaryKey = (refl, refl)
+  before-the-check SessionKey = (refl, refl)
+  before-the-check Increment = (refl, refl)
+  before-the-check Request = (refl, refl)
+
 -- the four steps of a session key job that check the frame under the new key
 pub four-more-steps :
     (image : List ℕ) (keys : List Key) (counter : ℕ) (frame root chain made inner : List ℕ) (kept : ℕ) →

@@ -23,7 +23,7 @@ use Rattle.device.specs.Work.{Device}
 use Rattle.device.specs.Calls.{device, Frame, called}
 use Rattle.progress.proofs.Enabled.{enabledAs}
 use Rattle.orders.specs.Orders.{allCalled}
-use Rattle.promises.specs.Examples.{P1, P2, P3, P4, P5, P6, P7, P8, P13, P14, Ready, slotFor, Shaped, InOrder, Seen, IdleWith}
+use Rattle.promises.specs.Examples.{P1, P2, P3, P4, P5, P6, P7, P8, P13, P14-while-busy, Ready, Idle, slotFor, Shaped, InOrder, script, NotReset, IdleWith}
 use Rattle.promises.proofs.ExamplesCalls.{Holds, frame-called, ready-enabled, command-called}
 
 -- a frame with its length in order has two bytes or more
@@ -60,18 +60,18 @@ module _ (d : Device) (ready : Ready d) (frame output : List ℕ) where
 
   -- a frame that fails on arrival ends with its status
   fails :
-      getD frame 0 0 ≡ 0x9B → 1 < length frame → (status : ℕ) → statusOnArrival (d .image) (d .state .keys) frame ≡ status → eqb status 0 ≡ false →
+      Idle d → getD frame 0 0 ≡ 0x9B → 1 < length frame → (status : ℕ) → statusOnArrival (d .image) (d .state .keys) frame ≡ status → eqb status 0 ≡ false →
       IdleWith status (called (Frame frame output) d)
   unfolding taken
-  fails first long status decided bad =
+  fails idle first long status decided bad =
       let failed = arrived-fails (d .image) (d .state) frame (rw decided bad) in
-      let after = command-called d ready output frame first long ∙ ap (device (d .image)) failed in
-      subst (IdleWith status) (sym after) (ready .none, decided)
+      let after = command-called d ready output idle frame first long ∙ ap (device (d .image)) failed in
+      subst (IdleWith status) (sym after) (idle, decided)
 
   shaped-fails :
-      (type : ℕ) → type ≤ 3 → Shaped type frame → (status : ℕ) → statusOnArrival (d .image) (d .state .keys) frame ≡ status → eqb status 0 ≡ false →
+      Idle d → (type : ℕ) → type ≤ 3 → Shaped type frame → (status : ℕ) → statusOnArrival (d .image) (d .state .keys) frame ≡ status → eqb status 0 ≡ false →
       IdleWith status (called (Frame frame output) d)
-  shaped-fails type known shaped = fails (shaped .first) (shaped-long type frame known shaped)
+  shaped-fails idle type known shaped = fails idle (shaped .first) (shaped-long type frame known shaped)
 
   pub alone : Holds P1 d frame output
   unfolding allCalled classOf namedClass withEnabled pick
@@ -79,48 +79,48 @@ module _ (d : Device) (ready : Ready d) (frame output : List ℕ) where
 
   pub short : Holds P2 d frame output
   unfolding allCalled statusOnArrival arrivalStatus firstOf pick
-  short e = fails (rw e) (rw e (omega arith)) 0x04 (rw e) refl
+  short (idle, e) = fails idle (rw e) (rw e (omega arith)) 0x04 (rw e) refl
 
   pub unknown-type : Holds P3 d frame output
   unfolding allCalled statusOnArrival arrivalStatus firstOf pick
-  unknown-type e = fails (rw e) (rw e (omega arith)) 0x04 (rw e) refl
+  unknown-type (idle, e) = fails idle (rw e) (rw e (omega arith)) 0x04 (rw e) refl
 
   pub root-key-beyond : Holds P4 d frame output
   unfolding allCalled firstOf pick
-  root-key-beyond (shaped, beyond) = shaped-fails 0 (omega arith) shaped 0x06 (past-shape 0 (omega arith) shaped ∙ rw beyond) refl
+  root-key-beyond (idle, shaped, beyond) = shaped-fails idle 0 (omega arith) shaped 0x06 (past-shape 0 (omega arith) shaped ∙ rw beyond) refl
 
   pub session-key-beyond : Holds P5 d frame output
   unfolding allCalled firstOf pick
-  session-key-beyond (shaped, beyond) = shaped-fails 1 (omega arith) shaped 0x04 (past-shape 1 (omega arith) shaped ∙ rw beyond) refl
+  session-key-beyond (idle, shaped, beyond) = shaped-fails idle 1 (omega arith) shaped 0x04 (past-shape 1 (omega arith) shaped ∙ rw beyond) refl
 
   -- a frame in order that fails by its slot or its session key
   slot-fails :
-      (type : ℕ) → type ≤ 3 → InOrder type frame → (status : ℕ) → fromRow 5 type ≡ status → eqb status 0 ≡ false →
+      Idle d → (type : ℕ) → type ≤ 3 → InOrder type frame → (status : ℕ) → fromRow 5 type ≡ status → eqb status 0 ≡ false →
       IdleWith status (called (Frame frame output) d)
-  slot-fails type known in-order status decided = shaped-fails type known (in-order .shaped) status (past-counter type known in-order ∙ decided)
+  slot-fails idle type known in-order status decided = shaped-fails idle type known (in-order .shaped) status (past-counter type known in-order ∙ decided)
 
   pub session-key-unset : Holds P6 d frame output
   unfolding allCalled firstOf pick
-  session-key-unset (in-order, sane, unset) = slot-fails 1 (omega arith) in-order 0x02 (rw (sane, unset)) refl
+  session-key-unset (idle, in-order, sane, unset) = slot-fails idle 1 (omega arith) in-order 0x02 (rw (sane, unset)) refl
 
   pub request-without-key : Holds P7 d frame output
   unfolding allCalled firstOf pick
-  request-without-key (in-order, sane, set, none) = slot-fails 3 (omega arith) in-order 0x08 (rw (sane, set, none)) refl
+  request-without-key (idle, in-order, sane, set, none) = slot-fails idle 3 (omega arith) in-order 0x08 (rw (sane, set, none)) refl
 
   pub root-key-set : Holds P8 d frame output
   unfolding allCalled firstOf pick
-  root-key-set (in-order, sane, set) = slot-fails 0 (omega arith) in-order 0x02 (rw (sane, set)) refl
+  root-key-set (idle, in-order, sane, set) = slot-fails idle 0 (omega arith) in-order 0x02 (rw (sane, set)) refl
 
   pub bad-slot : Holds P13 d frame output
   unfolding allCalled firstOf isBad pick
-  bad-slot (in-order, root) = slot-fails 3 (omega arith) in-order 0x20 (rw root) refl
+  bad-slot (idle, in-order, root) = slot-fails idle 3 (omega arith) in-order 0x20 (rw root) refl
 
-  -- reset-enable goes on, the read clears it, and the reset finds it off
-  pub no-reset : Holds P14 d frame output
+  -- reset-enable goes on, the read clears it, and the reset finds it off: whether a job is there or not
+  pub no-reset : NotReset d (allCalled (script P14-while-busy frame output) d)
   unfolding allCalled classOf namedClass withEnabled pick
-  no-reset e =
+  no-reset =
       let on = frame-called d ready output (0x66 ∷ []) in
       let off = frame-called (enabledAs true d) (ready-enabled d ready output true) output (0x96 ∷ 0x00 ∷ []) in
       let still = frame-called (enabledAs false d) (ready-enabled d ready output false) output (0x99 ∷ []) in
       let after = ap (allCalled (Frame (0x96 ∷ 0x00 ∷ []) output ∷ Frame (0x99 ∷ []) output ∷ [])) on ∙ ap (called (Frame (0x99 ∷ []) output)) off ∙ still in
-      subst (Seen P14 d frame) (sym after) (refl, refl, refl)
+      subst (NotReset d) (sym after) (record { status = refl; keys = refl; reply = refl; job = refl; image = refl })

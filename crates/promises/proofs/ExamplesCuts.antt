@@ -14,6 +14,7 @@ use Rattle.image.specs.Laid.{Laid}
 use Rattle.image.proofs.Slots.{slotBytes, root-in, counter-in}
 use Rattle.jobs.specs.declared.Kind.the-variants.{RootKeyAndCounter}
 use Rattle.frames.specs.Layout.{counterOf}
+use Rattle.state.proofs.Refused.{image-accepted}
 use Rattle.plan.specs.declared.Store.{Store}
 use Rattle.plan.specs.Stores.{keyStores, stores}
 use Rattle.plan.specs.Storing.{allStored}
@@ -34,7 +35,7 @@ module _ (d : Device) (ready : Ready d) (frame output : List ℕ) (p : Pairs d f
   plan = stores RootKeyAndCounter (frameKept frame) 0
 
   laid : Laid (d .image)
-  laid = accepted-laid (d .image) (ready .accepted)
+  laid = accepted-laid (d .image) (image-accepted (d .image) (d .state) (ready .not-refused))
 
   below : c < count (d .image)
   below = rw (ready .four) (p .in-order .named)

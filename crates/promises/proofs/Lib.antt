@@ -4,5 +4,6 @@ pub mod ExamplesCalls
 pub mod ExamplesArrival
 pub mod ExamplesJobs
 pub mod ExamplesCuts
+pub mod ExamplesHappen
 pub mod Examples
 pub mod Promises

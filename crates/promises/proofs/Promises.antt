@@ -36,9 +36,10 @@ use Rattle.orders.proofs.Ledger as Along
 use Rattle.orders.proofs.Commutes as Commutes
 use Rattle.orders.proofs.ItEnds as ItEnds
 use Rattle.promises.specs.Functions.{Did, Ran}
-use Rattle.promises.specs.Examples.{Example, Ready, Given, script, Seen}
+use Rattle.promises.specs.Examples.{Example, Ready, Given, script, Seen, Happens}
 use Rattle.promises.proofs.Functions as Functions
 use Rattle.promises.proofs.Examples as Examples
+use Rattle.promises.proofs.ExamplesHappen as ExamplesHappen
 
 -- Powered up on an accepted image, and any calls, in any order: `d` is the device that they leave, and `l` is the ledger, which is told
 -- from the calls alone.
@@ -113,13 +114,16 @@ pub functions-run : (calls : List Call) (d : Device) (lefts : List After) → Ra
 functions-run = Functions.functions-run
 
 -- So the functions keep what is promised of an order of calls. Of a run that powers up on an accepted image, `e` is the device that it
--- leaves, and `told` is the ledger.
+-- leaves, which is the one that the promises speak of, and `told` is the ledger. Some of the promises in full, the others by that equation.
 module _ (calls : List Call) (d : Device) (accepted : refusal (d .image) ≡ 0) (lefts : List After) (ran : Ran (PowerUp ∷ calls) d lefts) where
   abbrev e : Device
   e = lastLeft lefts d
 
   abbrev told : Ledger
   told = ledger calls (opened (d .image))
+
+  pub functions-come-to : allCalled calls (device (d .image) powerOn) ≡ e
+  functions-come-to = Functions.functions-come-to calls d accepted lefts ran
 
   pub functions-as-if-whole : isBusy e ≡ false → Alike (outcome e) (told .asIf)
   functions-as-if-whole = Functions.functions-as-if-whole calls d accepted lefts ran
@@ -178,3 +182,7 @@ any-power-up = AfterCalls.any-power-up
 -- "Cases marked P are proved about the specification, as a single table under one theorem."
 pub cases-marked-P : (p : Example) (d : Device) (frame output : List ℕ) → Ready d → Given p d frame → Seen p d frame (allCalled (script p frame output) d)
 cases-marked-P = Examples.cases-marked-P
+
+-- And each row of that table happens: there are a ready device and a frame that are what it is given.
+pub each-row-happens : (p : Example) → Happens p
+each-row-happens = ExamplesHappen.each-row-happens
