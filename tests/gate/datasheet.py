@@ -36,8 +36,8 @@ HEADING = re.compile(r"^#+ (\d+(?:\.\d+)*) ")
 NAMES = r"`[^`\s]+`(?:, `[^`\s]+`)* \([^()\s]+\)"
 SAID_BY = re.compile(rf"Said by: {NAMES}(?:, {NAMES})*\.")
 
-# How a definition of this name begins, in a proved file and in code.
-PROVED = r"^(?:(?:abbrev|unfoldable) )?pub (?:(?:record|data) {0}(?!\S)|{0} :)"
+# How a definition of this name begins, in a proved file, of a module there too, and in code.
+PROVED = r"^(?:  )?(?:(?:abbrev|unfoldable) )?pub (?:(?:record|data) {0}(?!\S)|{0} :)"
 CODE = r'^(?:pub )?(?:(?:struct|enum) {0}\b|(?:extern "C" )?fn {0}\b)'
 
 

@@ -6,4 +6,5 @@ pub mod Unseen
 pub mod Cuts
 pub mod Alikes
 pub mod Growing
+pub mod InARow
 pub mod SecondHalf

@@ -1,25 +1,20 @@
 -- One call more: what holds of the ledger and the device along an order of calls holds after it. Assumes nothing.
-use Prim.Native.Nat.{ℕ, _+_}
+use Prim.Native.Nat.{ℕ, _+_, _≤_}
 use mathlib.Core.Path.{_≡_, refl, ap, sym, subst, _∙_}
 use mathlib.Core.Bool.{Bool, true, false}
 use mathlib.Core.List.{List}
-use native.Mathlib.Nat.{zero-sub}
-use borrow.Author.Tests.{eqb-true, ltb-true}
+use borrow.Author.Tests.{eqb-true, ltb-true, ltb-false}
 use lib.Dec.{eqb, ltb}
 use lib.ListN.{length, getD}
 use Rattle.words.proofs.Choice.{never, either}
 use Rattle.image.specs.Refusal.{refusal}
 use Rattle.image.proofs.Laid.{SameHeader, then-header, back-header, same-laid, accepted-laid, same-refusal}
-use Rattle.jobs.specs.Jobs.{commandOf, hashSteps}
-use Rattle.jobs.proofs.Longest.{some-steps}
 use Rattle.frames.specs.Layout.{counterOf}
 use Rattle.state.specs.declared.Key.{Key}
 use Rattle.state.specs.declared.State.{State}
 use Rattle.state.specs.Parts.{noKey, powerOn}
 use Rattle.state.proofs.Inside.{no-key}
-use Rattle.state.proofs.Running.{no-job-idle}
-use Rattle.plan.specs.Storing.{allStored}
-use Rattle.arrival.specs.Arrival.{jobOf, taken}
+use Rattle.arrival.specs.Arrival.{taken}
 use Rattle.rules.specs.Whole.{frameKept, statusOnArrival, Outcome, kindIn, whole}
 use Rattle.arrival.proofs.Arrives.{arrived-starts, arrived-fails}
 use Rattle.device.specs.Frame.{withEnabled}
@@ -27,11 +22,9 @@ use Rattle.device.specs.Work.{Device, run}
 use Rattle.device.specs.Calls.{device, outcome, isBusy}
 use Rattle.progress.specs.Steps.{stepsOf}
 use Rattle.progress.proofs.Runs.{run-add}
-use Rattle.progress.proofs.Jobs.{At, progress}
+use Rattle.progress.proofs.Jobs.{progress}
 use Rattle.progress.proofs.Enabled.{enabledAs, run-same}
-use Rattle.progress.proofs.Ends.{same-end}
-use Rattle.progress.proofs.RunsWhole.{runs-whole}
-use Rattle.progress.proofs.Steps.{busy-below}
+use Rattle.progress.proofs.Steps.{busy-below, working-at, whole-after}
 use Rattle.counters.specs.Compared.{Alike}
 use Rattle.rules.specs.Formed.{Formed}
 use Rattle.rules.proofs.Kept.{whole-kept, whole-formed}
@@ -144,59 +137,50 @@ module _
 module _
     (d : Device) (frame : List ℕ) (o : Outcome) (formed : Formed (d .image) (d .state .keys)) (none : isBusy d ≡ false)
     (header : SameHeader (d .image) (o .image)) (alike : Alike (outcome d) o) (n : ℕ) where
+  same-steps : stepsOf (outcome d) frame ≡ stepsOf o frame
+  same-steps = steps-same frame (outcome d) o (same-to frame (outcome d) o header alike)
+
   pub busy-as-told : isBusy (run n (started d frame)) ≡ ltb n (stepsOf o frame)
-  busy-as-told =
-      busy-below d frame none (formed .long (counterOf frame)) n
-      ∙ ap (ltb n) (steps-same frame (outcome d) o (same-to frame (outcome d) o header alike))
+  busy-as-told = busy-below d frame none (formed .long (counterOf frame)) n ∙ ap (ltb n) same-steps
 
   out : (b : Bool) → ltb n (stepsOf o frame) ≡ false → Resting (whole o frame) (enabledAs b (run n (started d frame)))
   unfolding withEnabled
   out b e =
-      let quiet : isBusy (run n (started d frame)) ≡ false = busy-as-told ∙ e in
-      let end = same-end n (started d frame) (no-job-idle (run n (started d frame) .state) quiet) in
+      let all : stepsOf (outcome d) frame ≤ n = rw same-steps (ltb-false n (stepsOf o frame) e) in
       ended d frame o formed header alike (enabledAs b (run n (started d frame)))
-      (ap outcome end ∙ runs-whole d frame none (formed .long (counterOf frame))) quiet
+      (whole-after d frame none (formed .long (counterOf frame)) n all) (busy-as-told ∙ e)
 
 -- a command frame that finds the device idle
 module _ (o : Outcome) (d : Device) (accepted : refusal (o .image) ≡ 0) (r : Resting o d) (frame : List ℕ) where
-  at-start : At (kindIn (outcome d) frame) (counterOf frame) (frameKept frame) (d .image) 0 (d .image) (taken (d .state) 0x01 (jobOf (d .image) frame))
-  unfolding taken jobOf allStored
-  at-start =
-      record {
-        there = refl;
-        kind-kept = refl;
-        counter-kept = refl;
-        frame-kept = refl;
-        step = refl;
-        stored-so-far = rw (zero-sub (hashSteps (commandOf (kindIn (outcome d) frame))));
-      }
-
-  -- whether it passes checks 1 to 7, or fails and starts no job
   busy-first : isBusy (started d frame) ≡ ltb 0 (stepsOf o frame)
   unfolding run
   busy-first = busy-as-told d frame o (r .formed) (r .none) (r .header) (r .alike) 0
 
-  on-by :
+  -- it starts a job only if it passes checks 1 to 7
+  passes-by :
       ltb 0 (stepsOf o frame) ≡ true → (b : Bool) → eqb (statusOnArrival (d .image) (d .state .keys) frame) 0 ≡ b →
-      Working frame 0 o (started d frame)
-  unfolding taken jobOf withEnabled run
-  on-by more true e =
-      let arrives = arrived-starts (d .image) (d .state) frame e in
+      statusOnArrival (d .image) (d .state .keys) frame ≡ 0
+  unfolding taken
+  passes-by more true e = eqb-true _ 0 e
+  passes-by more false e =
+      let none = ap (λ (s : State). s .job .there) (arrived-fails (d .image) (d .state) frame e) ∙ r .none in
+      absurd (never (sym none ∙ busy-first ∙ more))
+
+  starts : ltb 0 (stepsOf o frame) ≡ true → Working frame 0 o (started d frame)
+  unfolding withEnabled run
+  starts more =
+      let work = working-at d frame (r .none) (r .formed .long (counterOf frame)) 0 (busy-first ∙ more) in
       record {
         found = d;
         formed = r .formed;
         none = r .none;
         header = r .header;
         alike = r .alike;
-        passed = eqb-true _ 0 e;
+        passed = passes-by more _ refl;
         now = refl;
-        at =
-            subst (At (kindIn (outcome d) frame) (counterOf frame) (frameKept frame) (d .image) 0 (d .image)) (sym arrives) at-start;
-        left = some-steps (kindIn (outcome d) frame);
+        at = work .0;
+        left = work .1;
       }
-  on-by more false e =
-      let none = ap (λ (s : State). s .job .there) (arrived-fails (d .image) (d .state) frame e) ∙ r .none in
-      absurd (never (sym none ∙ busy-first ∙ more))
 
   off-after : started d frame .state .enabled ≡ false
   unfolding taken
@@ -212,7 +196,7 @@ module _ (o : Outcome) (d : Device) (accepted : refusal (o .image) ≡ 0) (r : R
   taken-on =
       either (λ (l : Ledger). Sound l (started d frame)) (ltb 0 (stepsOf o frame)) _ _
       (λ more.
-      record { accepted = accepted; enabled = off-after; state = (on-by more _ refl, ltb-true 0 (stepsOf o frame) more) })
+      record { accepted = accepted; enabled = off-after; state = (starts more, ltb-true 0 (stepsOf o frame) more) })
       (λ end.
       record {
         accepted = accepted-whole o frame accepted;

@@ -4,10 +4,8 @@ use Prim.Native.Nat.{ℕ}
 use mathlib.Core.Path.{_≡_, refl, ap, sym, subst, _∙_}
 use mathlib.Core.Bool.{Bool, true, false}
 use mathlib.Core.List.{List, [], _∷_}
-use borrow.Author.Tests.{lt-ltb}
 use lib.ListN.{length}
 use Rattle.words.specs.Choice.{pick}
-use Rattle.words.specs.Rows.{firstOf, anyOf}
 use Rattle.words.proofs.Choice.{never}
 use Rattle.image.specs.Header.{count}
 use Rattle.image.specs.Refusal.{refusal}
@@ -15,11 +13,10 @@ use Rattle.frames.specs.declared.Class.{Class}
 use Rattle.frames.specs.declared.Class.the-variants.{Empty, EnableReset, Reset, Read, Unnamed, CommandFrame}
 use Rattle.frames.specs.Classes.{classOf}
 use Rattle.frames.specs.Reading.{readOutput}
-use Rattle.frames.specs.Layout.{counterOf}
 use Rattle.frames.proofs.Reading.{busy-read}
 use Rattle.state.specs.Parts.{powerOn}
-use Rattle.state.specs.Refusal.{jobRefusal, deviceRefusal}
-use Rattle.state.proofs.Refused.{device-refusal}
+use Rattle.state.specs.Refusal.{deviceRefusal}
+use Rattle.state.proofs.Refused.{Fits, fits-accepted}
 use Rattle.state.proofs.Running.{no-job-idle}
 use Rattle.arrival.specs.Arrival.{arrived}
 use Rattle.device.specs.Frame.{withEnabled, stateAfter, outputAfter}
@@ -39,16 +36,10 @@ use Rattle.orders.proofs.Interrupted.{below-now, kind-as-if}
 use Rattle.orders.proofs.Calls.{formed-on, accepted-now, enabled-only, cut-off, taken-on, worked-on}
 
 -- the job that is there, if any, fits
-job-fits : (p : Pending) (o : Outcome) (d : Device) → AsPending p o d → jobRefusal (count (d .image)) (d .state) ≡ 0
-unfolding jobRefusal firstOf anyOf pick
-job-fits None o d r = rw (r .none)
-job-fits (Doing frame done) o d (w, _) =
-    rw (
-      runs _ _ _ _ _ (d .image) (d .state) (w .at) (w .left),
-      w .at .there,
-      w .at .counter-kept,
-      lt-ltb (counterOf frame) (count (d .image)) (below-now frame done o d w),
-    )
+fits : (p : Pending) (o : Outcome) (d : Device) → AsPending p o d → Fits (count (d .image)) (d .state)
+fits None o d r there = absurd (never (sym (r .none) ∙ there))
+fits (Doing frame done) o d (w, _) there =
+    (rw (w .at .counter-kept) (below-now frame done o d w), runs _ _ _ _ _ (d .image) (d .state) (w .at) (w .left))
 
 -- no call is refused
 module _ (l : Ledger) (d : Device) (sound : Sound l d) where
@@ -56,8 +47,7 @@ module _ (l : Ledger) (d : Device) (sound : Sound l d) where
   accepted-image = accepted-now (l .pending) (l .asIf) d (sound .state) (sound .accepted)
 
   pub not-refused : deviceRefusal (d .image) (d .state) ≡ 0
-  unfolding pick
-  not-refused = rw (device-refusal (d .image) (d .state), accepted-image) (job-fits (l .pending) (l .asIf) d (sound .state))
+  not-refused = fits-accepted (d .image) (d .state) accepted-image (fits (l .pending) (l .asIf) d (sound .state))
 
   pub frame-done :
       (bytes output : List ℕ) →
@@ -160,7 +150,9 @@ pub at-rest : (l : Ledger) (d : Device) → Sound l d → isBusy d ≡ false →
 at-rest l d sound none = rests-by (l .pending) (l .asIf) d (sound .state) none
 
 -- the job that is there is that of the frame under way
-job-of : (p : Pending) (o : Outcome) (d : Device) → AsPending p o d → (frame : List ℕ) (done : ℕ) → p ≡ Doing frame done → JobOf frame done o (d .state .job)
+job-of :
+    (p : Pending) (o : Outcome) (d : Device) → AsPending p o d → (frame : List ℕ) (done : ℕ) → p ≡ Doing frame done →
+    JobOf frame done o (d .state .job)
 job-of p o d state frame done e =
     let w = subst (λ (q : Pending). AsPending q o d) e state .0 in
     record {

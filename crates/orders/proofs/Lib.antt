@@ -8,3 +8,5 @@ pub mod Ledger
 pub mod ItEnds
 pub mod Growing
 pub mod Monotonic
+pub mod Schedules
+pub mod Commutes

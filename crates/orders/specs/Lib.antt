@@ -5,3 +5,4 @@ pub mod Ledger
 pub mod InStep
 pub mod Growing
 pub mod Touched
+pub mod Schedules

@@ -62,4 +62,4 @@ module _ (d : Device) (ready : Ready d) (output : List ℕ) where
         let accepted = image-accepted (d .image) (d .state) (ready .not-refused) in
         let runs = lt-ltb 0 _ (some-steps (kindIn (outcome d) frame)) in
         ap (called (Work n)) (command-called ∙ ap (device (d .image)) starts)
-        ∙ work-runs n (device (d .image) s) (job-accepted (d .image) s accepted (λ _. (below, runs)))
+        ∙ work-runs n (device (d .image) s) (job-accepted (d .image) s accepted below runs)

@@ -62,24 +62,26 @@ module _ (calls : List Call) (d : Device) (accepted : refusal (d .image) ≡ 0) 
   abbrev e : Device
   e = lastLeft lefts d
 
-  comes-to : allCalled calls (device (d .image) powerOn) ≡ e
+  -- The device that it leaves is the one that the promises speak of.
+  pub functions-come-to : allCalled calls (device (d .image) powerOn) ≡ e
   unfolding allCalled poweredUp
-  comes-to =
+  functions-come-to =
       sym (last-called (PowerUp ∷ calls) d) ∙ ap (λ (rs : List After). lastLeft rs d) (functions-run (PowerUp ∷ calls) d lefts ran)
 
   -- Once idle, the device shows what it would show if the command frames that found it idle had run whole.
   pub functions-as-if-whole : isBusy e ≡ false → Alike (outcome e) (l .asIf)
   functions-as-if-whole idle =
-      subst (λ (x : Device). Alike (outcome x) (l .asIf)) comes-to (as-if-whole (d .image) accepted calls (ap isBusy comes-to ∙ idle))
+      subst (λ (x : Device). Alike (outcome x) (l .asIf)) functions-come-to
+      (as-if-whole (d .image) accepted calls (ap isBusy functions-come-to ∙ idle))
 
   -- The ledger of the calls agrees with it at every moment.
   pub functions-in-step : InStep l e
-  functions-in-step = subst (InStep l) comes-to (in-step (d .image) accepted calls)
+  functions-in-step = subst (InStep l) functions-come-to (in-step (d .image) accepted calls)
 
   -- One call more: it is not refused, a read shows what the ledger says, and a work call with a quota of the longest job or more leaves
   -- the device idle.
   leaves-next : (call : Call) (r : After) → Did call e r → after call (allCalled calls (device (d .image) powerOn)) ≡ r
-  leaves-next call r did = ap (after call) comes-to ∙ functions-leave call e r did
+  leaves-next call r did = ap (after call) functions-come-to ∙ functions-leave call e r did
 
   pub functions-never-refused : (call : Call) (r : After) → Did call e r → r .number ≡ 0
   functions-never-refused call r did =

@@ -29,9 +29,11 @@ use Rattle.rules.specs.Formed.{Formed}
 use Rattle.counters.specs.Reordering.{ownFrames, allWhole, ownStatuses}
 use Rattle.counters.proofs.SecondHalf.{same-counter, same-session, same-statuses}
 use Rattle.orders.specs.Orders.{allCalled, answers, lastLeft}
-use Rattle.orders.specs.Ledger.{ledger, opened, isDoing}
+use Rattle.orders.specs.Ledger.{Ledger, isDoing, ledger, opened}
 use Rattle.orders.specs.InStep.{InStep}
-use Rattle.orders.proofs.Ledger as Ledger
+use Rattle.orders.specs.Schedules.{NoRestart, framesTaken, finals}
+use Rattle.orders.proofs.Ledger as Along
+use Rattle.orders.proofs.Commutes as Commutes
 use Rattle.orders.proofs.ItEnds as ItEnds
 use Rattle.promises.specs.Functions.{Did, Ran}
 use Rattle.promises.specs.Examples.{Example, Ready, Given, script, Seen, Happens}
@@ -39,69 +41,113 @@ use Rattle.promises.proofs.Functions as Functions
 use Rattle.promises.proofs.Examples as Examples
 use Rattle.promises.proofs.ExamplesHappen as ExamplesHappen
 
--- "Whatever the order of frames, steps, resets and power cuts, once idle the device is as if the frames that found it idle had run
--- whole." Powered up on an accepted image; what would be is told by `ledger` from the calls alone, what is compared is `Alike`.
-pub as-if-whole :
-    (image : List ℕ) → refusal image ≡ 0 → (calls : List Call) → isBusy (allCalled calls (device image powerOn)) ≡ false →
-    Alike (outcome (allCalled calls (device image powerOn))) (ledger calls (opened image) .asIf)
-as-if-whole = Ledger.as-if-whole
+-- Powered up on an accepted image, and any calls, in any order: `d` is the device that they leave, and `l` is the ledger, which is told
+-- from the calls alone.
+module _ (image : List ℕ) (accepted : refusal image ≡ 0) (calls : List Call) where
+  abbrev d : Device
+  d = allCalled calls (device image powerOn)
 
--- At every moment the ledger agrees with the device: busy while a frame is under way, with its job and so many steps done, reset enabled
--- or not, and once idle what it would be.
-pub in-step :
-    (image : List ℕ) → refusal image ≡ 0 → (calls : List Call) → InStep (ledger calls (opened image)) (allCalled calls (device image powerOn))
-in-step = Ledger.in-step
+  abbrev l : Ledger
+  l = ledger calls (opened image)
 
--- So a read at any moment shows what the ledger says: its status and its reply, or, while a frame is under way, 01h throughout.
-pub reads :
-    (image : List ℕ) → refusal image ≡ 0 → (calls : List Call) (bytes output : List ℕ) → classOf bytes ≡ Read →
-    after (Frame bytes output) (allCalled calls (device image powerOn)) .output ≡
-    readOutput (isDoing (ledger calls (opened image) .pending)) (ledger calls (opened image) .asIf .status)
-    (ledger calls (opened image) .asIf .reply) (length output)
-reads = Ledger.reads
+  -- "Whatever the order of frames, steps, resets and power cuts, once idle the device is as if the frames that found it idle had run
+  -- whole." What is compared is `Alike`.
+  pub as-if-whole : isBusy d ≡ false → Alike (outcome d) (l .asIf)
+  as-if-whole = Along.as-if-whole image accepted calls
 
-pub busy-read : (status : ℕ) (reply : Reply) (size : ℕ) → readOutput true status reply size ≡ replicate size 0x01
-busy-read = Reading.busy-read
+  -- At every moment the ledger agrees with the device: busy while a frame is under way, with its job and so many of its steps done; reset
+  -- enabled or not; and once idle what it would be.
+  pub in-step : InStep l d
+  in-step = Along.in-step image accepted calls
 
--- A run made of calls of the functions power_up, frame and work, of which only the contracts are used: "each call is handed the state
--- and the image that the one before it left." Each leaves what is said of its call, number, steps, output, image and state; so does the
--- run, call by call, and what is promised of an order of calls holds of it.
+  -- So a read at any moment shows what the ledger says: its status and its reply, or, while a frame is under way, 01h throughout
+  -- (`busy-read`).
+  pub reads :
+      (bytes output : List ℕ) → classOf bytes ≡ Read →
+      after (Frame bytes output) d .output ≡ readOutput (isDoing (l .pending)) (l .asIf .status) (l .asIf .reply) (length output)
+  reads = Along.reads image accepted calls
+
+  -- "Frames on different counters commute." Of a device that is idle, for any schedule: two orders of calls without a reset or a power
+  -- cut, with any quotas of steps, reads and frames that are ignored, both of which leave it idle, and in which the frames taken for a
+  -- counter are the same, in the same order. Then so are what is compared of the counter, its session key, and the final status of each
+  -- of its frames.
+  pub device-commutes :
+      isBusy d ≡ false → (xs ys : List Call) → NoRestart xs l → NoRestart ys l → isBusy (allCalled xs d) ≡ false →
+      isBusy (allCalled ys d) ≡ false → (c : ℕ) → ownFrames c (framesTaken xs l) ≡ ownFrames c (framesTaken ys l) →
+      (c < count (d .image) → counterIn (allCalled xs d .image) c ≡ counterIn (allCalled ys d .image) c)
+      × (getD (allCalled xs d .state .keys) c noKey ≡ getD (allCalled ys d .state .keys) c noKey)
+      × (finals c xs l d ≡ finals c ys l d)
+  device-commutes = Commutes.device-commutes image accepted calls
+
+  -- "So busy clears after at most 15 steps", which the longest job has: a work call with that quota leaves the device idle, a job that is
+  -- there is older by the steps that each call reports, and has done fewer than the longest has.
+  pub it-ends : (quota : ℕ) → longest ≤ quota → isBusy (called (Work quota) d) ≡ false
+  it-ends = ItEnds.it-ends image accepted calls
+
+  pub every-step-counts :
+      (call : Call) → isBusy d ≡ true → isBusy (called call d) ≡ true →
+      called call d .state .job .step ≡ after call d .steps + d .state .job .step
+  every-step-counts = ItEnds.every-step-counts image accepted calls
+
+  pub never-longer : isBusy d ≡ true → d .state .job .step < longest
+  never-longer = ItEnds.never-longer image accepted calls
+
+  -- A command frame that finds the device idle takes exactly the steps of its kind, fewer if a check fails, none if it fails on arrival;
+  -- a work call does its quota of them, or those that are left.
+  pub steps-by-kind :
+      isBusy d ≡ false → (frame output : List ℕ) → classOf frame ≡ CommandFrame → (n : ℕ) →
+      (isBusy (called (Work n) (called (Frame frame output) d)) ≡ ltb n (stepsOf (outcome d) frame))
+      × (after (Work n) (called (Frame frame output) d) .steps ≡ min n (stepsOf (outcome d) frame))
+  steps-by-kind = ItEnds.steps-by-kind image accepted calls
+
+  -- "A refused call is no part of the order": and in an order from an accepted image there is none.
+  pub never-refused : (call : Call) → after call d .number ≡ 0
+  never-refused = Along.never-refused image accepted calls
+
+-- A call of a function power_up, frame or work, of which only the contract is used, leaves what is said of the call: number, steps,
+-- output, image and state. "Each call is handed the state and the image that the one before it left": so a run made of such calls leaves
+-- what is said of it, call by call.
 pub functions-leave : (call : Call) (d : Device) (r : After) → Did call d r → after call d ≡ r
 functions-leave = Functions.functions-leave
 
 pub functions-run : (calls : List Call) (d : Device) (lefts : List After) → Ran calls d lefts → answers calls d ≡ lefts
 functions-run = Functions.functions-run
 
-pub functions-as-if-whole :
-    (calls : List Call) (d : Device) → refusal (d .image) ≡ 0 → (lefts : List After) → Ran (PowerUp ∷ calls) d lefts →
-    isBusy (lastLeft lefts d) ≡ false → Alike (outcome (lastLeft lefts d)) (ledger calls (opened (d .image)) .asIf)
-functions-as-if-whole = Functions.functions-as-if-whole
+-- So the functions keep what is promised of an order of calls. Of a run that powers up on an accepted image, `e` is the device that it
+-- leaves, which is the one that the promises speak of, and `told` is the ledger. Some of the promises in full, the others by that equation.
+module _ (calls : List Call) (d : Device) (accepted : refusal (d .image) ≡ 0) (lefts : List After) (ran : Ran (PowerUp ∷ calls) d lefts) where
+  abbrev e : Device
+  e = lastLeft lefts d
 
-pub functions-in-step :
-    (calls : List Call) (d : Device) → refusal (d .image) ≡ 0 → (lefts : List After) → Ran (PowerUp ∷ calls) d lefts →
-    InStep (ledger calls (opened (d .image))) (lastLeft lefts d)
-functions-in-step = Functions.functions-in-step
+  abbrev told : Ledger
+  told = ledger calls (opened (d .image))
 
-pub functions-never-refused :
-    (calls : List Call) (d : Device) → refusal (d .image) ≡ 0 → (lefts : List After) → Ran (PowerUp ∷ calls) d lefts →
-    (call : Call) (r : After) → Did call (lastLeft lefts d) r → r .number ≡ 0
-functions-never-refused = Functions.functions-never-refused
+  pub functions-come-to : allCalled calls (device (d .image) powerOn) ≡ e
+  functions-come-to = Functions.functions-come-to calls d accepted lefts ran
 
-pub functions-read :
-    (calls : List Call) (d : Device) → refusal (d .image) ≡ 0 → (lefts : List After) → Ran (PowerUp ∷ calls) d lefts →
-    (bytes output : List ℕ) (r : After) → classOf bytes ≡ Read → Did (Frame bytes output) (lastLeft lefts d) r →
-    r .output ≡
-    readOutput (isDoing (ledger calls (opened (d .image)) .pending)) (ledger calls (opened (d .image)) .asIf .status)
-    (ledger calls (opened (d .image)) .asIf .reply) (length output)
-functions-read = Functions.functions-read
+  pub functions-as-if-whole : isBusy e ≡ false → Alike (outcome e) (told .asIf)
+  functions-as-if-whole = Functions.functions-as-if-whole calls d accepted lefts ran
 
-pub functions-end :
-    (calls : List Call) (d : Device) → refusal (d .image) ≡ 0 → (lefts : List After) → Ran (PowerUp ∷ calls) d lefts →
-    (quota : ℕ) (r : After) → longest ≤ quota → Did (Work quota) (lastLeft lefts d) r → isBusy (r .device) ≡ false
-functions-end = Functions.functions-end
+  pub functions-in-step : InStep told e
+  functions-in-step = Functions.functions-in-step calls d accepted lefts ran
 
--- "Frames on different counters commute." Of frames that run whole, in two orders in which a counter has the same frames in the same
--- order: no counter, no key and no frame's own final status changes. "A two-byte one belongs to no counter", and ends with 04h.
+  pub functions-read :
+      (bytes output : List ℕ) (r : After) → classOf bytes ≡ Read → Did (Frame bytes output) e r →
+      r .output ≡ readOutput (isDoing (told .pending)) (told .asIf .status) (told .asIf .reply) (length output)
+  functions-read = Functions.functions-read calls d accepted lefts ran
+
+  pub functions-end : (quota : ℕ) (r : After) → longest ≤ quota → Did (Work quota) e r → isBusy (r .device) ≡ false
+  functions-end = Functions.functions-end calls d accepted lefts ran
+
+  pub functions-never-refused : (call : Call) (r : After) → Did call e r → r .number ≡ 0
+  functions-never-refused = Functions.functions-never-refused calls d accepted lefts ran
+
+-- While busy a read shows 01h and nothing else.
+pub busy-read : (status : ℕ) (reply : Reply) (size : ℕ) → readOutput true status reply size ≡ replicate size 0x01
+busy-read = Reading.busy-read
+
+-- Of frames that run whole, in two orders in which a counter has the same frames in the same order: no counter, no key and no frame's
+-- own final status changes. "A two-byte one belongs to no counter", and ends with 04h.
 pub counters-commute :
     (c : ℕ) (fs gs : List (List ℕ)) (o : Outcome) → Formed (o .image) (o .keys) → ownFrames c fs ≡ ownFrames c gs →
     (c < count (o .image) → counterIn (allWhole fs o .image) c ≡ counterIn (allWhole gs o .image) c)
@@ -112,40 +158,12 @@ counters-commute c fs gs o formed order =
 pub two-bytes-fail : (o : Outcome) (frame : List ℕ) → length frame ≤ 2 → whole o frame ≡ failedWith 0x04 o
 two-bytes-fail = TooShort.two-bytes-fail
 
--- "So busy clears after at most 15 steps", which the longest job has: after as many no job runs, of any device, and a work call with
--- that quota leaves the device idle after any calls; a job that is there is older by the steps that each call reports. A command frame
--- that finds the device idle takes exactly the steps of its kind.
+-- The longest job has 15 steps, and after as many no job runs, of any device.
 pub longest-job : longest ≡ 15
 longest-job = Longest.longest-job
 
 pub longest-is-enough : (d : Device) → isRunning (run longest d .state) ≡ false
 longest-is-enough = Ends.longest-is-enough
-
-pub it-ends :
-    (image : List ℕ) → refusal image ≡ 0 → (calls : List Call) (quota : ℕ) → longest ≤ quota →
-    isBusy (called (Work quota) (allCalled calls (device image powerOn))) ≡ false
-it-ends = ItEnds.it-ends
-
-pub every-step-counts :
-    (image : List ℕ) → refusal image ≡ 0 → (calls : List Call) (call : Call) → isBusy (allCalled calls (device image powerOn)) ≡ true →
-    isBusy (called call (allCalled calls (device image powerOn))) ≡ true →
-    called call (allCalled calls (device image powerOn)) .state .job .step ≡
-    after call (allCalled calls (device image powerOn)) .steps + allCalled calls (device image powerOn) .state .job .step
-every-step-counts = ItEnds.every-step-counts
-
-pub never-longer :
-    (image : List ℕ) → refusal image ≡ 0 → (calls : List Call) → isBusy (allCalled calls (device image powerOn)) ≡ true →
-    allCalled calls (device image powerOn) .state .job .step < longest
-never-longer = ItEnds.never-longer
-
-pub steps-by-kind :
-    (image : List ℕ) → refusal image ≡ 0 → (calls : List Call) → isBusy (allCalled calls (device image powerOn)) ≡ false →
-    (frame output : List ℕ) → classOf frame ≡ CommandFrame → (n : ℕ) →
-    (isBusy (called (Work n) (called (Frame frame output) (allCalled calls (device image powerOn)))) ≡
-    ltb n (stepsOf (outcome (allCalled calls (device image powerOn))) frame))
-    × (after (Work n) (called (Frame frame output) (allCalled calls (device image powerOn))) .steps ≡
-    min n (stepsOf (outcome (allCalled calls (device image powerOn))) frame))
-steps-by-kind = ItEnds.steps-by-kind
 
 -- "Refused calls change no lent byte, return the state handed in and report 0 steps; a refused power-up returns the power-on state."
 pub refused-frame :
@@ -160,11 +178,6 @@ refused-work = AfterCalls.refused-work
 
 pub any-power-up : (d : Device) → called PowerUp d ≡ device (d .image) powerOn
 any-power-up = AfterCalls.any-power-up
-
--- "A refused call is no part of the order": and in an order from an accepted image there is none.
-pub never-refused :
-    (image : List ℕ) → refusal image ≡ 0 → (calls : List Call) (call : Call) → after call (allCalled calls (device image powerOn)) .number ≡ 0
-never-refused = Ledger.never-refused
 
 -- "Cases marked P are proved about the specification, as a single table under one theorem."
 pub cases-marked-P : (p : Example) (d : Device) (frame output : List ℕ) → Ready d → Given p d frame → Seen p d frame (allCalled (script p frame output) d)

@@ -8,7 +8,7 @@ use borrow.Author.Tests.{ltb-true, lt-ltb, not-false}
 use lib.Dec.{ltb}
 use Rattle.words.specs.Choice.{pick, orElse}
 use Rattle.words.specs.Rows.{firstOf, anyOf}
-use Rattle.words.proofs.Choice.{not-both, or-zero}
+use Rattle.words.proofs.Choice.{or-zero, not-both}
 use Rattle.words.proofs.Rows.{none-fails, no-test, first-append}
 use Rattle.image.specs.Header.{count}
 use Rattle.image.specs.Refusal.{refusalsOf, refusal}
@@ -38,11 +38,16 @@ fits-by counters s fits false none = rw none
 pub fits-job : (counters : ℕ) (s : State) → Fits counters s → jobRefusal counters s ≡ 0
 fits-job counters s fits = fits-by counters s fits _ refl
 
--- what is not refused has an accepted image,
+-- where there is no refusal, the image is accepted
 pub image-accepted : (image : List ℕ) (s : State) → deviceRefusal image s ≡ 0 → refusal image ≡ 0
 image-accepted image s e = or-zero _ _ (sym (device-refusal image s) ∙ e) .0
 
--- and an accepted image with a job that fits is not refused
-pub job-accepted : (image : List ℕ) (s : State) → refusal image ≡ 0 → Fits (count image) s → deviceRefusal image s ≡ 0
+-- and there is none of an accepted image and a job that fits
+pub fits-accepted : (image : List ℕ) (s : State) → refusal image ≡ 0 → Fits (count image) s → deviceRefusal image s ≡ 0
 unfolding pick
-job-accepted image s accepted fits = rw (device-refusal image s, accepted) (fits-job (count image) s fits)
+fits-accepted image s accepted fits = rw (device-refusal image s, accepted) (fits-job (count image) s fits)
+
+-- as one that runs, of a counter that there is
+pub job-accepted :
+    (image : List ℕ) (s : State) → refusal image ≡ 0 → s .job .counter < count image → isRunning s ≡ true → deviceRefusal image s ≡ 0
+job-accepted image s accepted below runs = fits-accepted image s accepted (λ _. (below, runs))
