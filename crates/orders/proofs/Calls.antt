@@ -13,7 +13,6 @@ use Rattle.frames.specs.Layout.{counterOf}
 use Rattle.state.specs.declared.Key.{Key}
 use Rattle.state.specs.declared.State.{State}
 use Rattle.state.specs.Parts.{noKey, powerOn}
-use Rattle.state.proofs.Inside.{no-key}
 use Rattle.arrival.specs.Arrival.{taken}
 use Rattle.rules.specs.Whole.{frameKept, statusOnArrival, Outcome, kindIn, whole}
 use Rattle.arrival.proofs.Arrives.{arrived-starts, arrived-fails}
@@ -27,17 +26,12 @@ use Rattle.progress.proofs.Enabled.{enabledAs, run-same}
 use Rattle.progress.proofs.Steps.{busy-below, working-at, whole-after}
 use Rattle.counters.specs.Compared.{Alike}
 use Rattle.rules.specs.Formed.{Formed}
-use Rattle.rules.proofs.Kept.{whole-kept, whole-formed}
+use Rattle.rules.proofs.Kept.{formed-on, whole-kept, whole-formed}
 use Rattle.counters.proofs.Alikes.{same-to, alike-whole}
 use Rattle.orders.specs.Ledger.{Pending, None, Doing, Ledger, entry, going, interrupted, restarted}
 use Rattle.orders.proofs.Sound.{Resting, started, Working, AsPending, Sound}
 use Rattle.orders.proofs.SameSteps.{steps-same}
 use Rattle.orders.proofs.Interrupted.{Left, header-as-if, left-behind}
-
--- the power-on state is formed
-pub formed-on : (image : List ℕ) → refusal image ≡ 0 → Formed image (powerOn .keys)
-formed-on image accepted =
-    record { laid = accepted-laid image accepted; four = refl; long = λ k. ap (λ (key : Key). length (key .bytes)) (no-key 4 k) }
 
 -- what is as if, as a device
 pub formed-as-if :
@@ -143,12 +137,14 @@ module _
   pub busy-as-told : isBusy (run n (started d frame)) ≡ ltb n (stepsOf o frame)
   busy-as-told = busy-below d frame none (formed .long (counterOf frame)) n ∙ ap (ltb n) same-steps
 
+  comes-whole : ltb n (stepsOf o frame) ≡ false → outcome (run n (started d frame)) ≡ whole (outcome d) frame
+  comes-whole e =
+      let all : stepsOf (outcome d) frame ≤ n = rw same-steps (ltb-false n (stepsOf o frame) e) in
+      whole-after d frame none (formed .long (counterOf frame)) n all
+
   out : (b : Bool) → ltb n (stepsOf o frame) ≡ false → Resting (whole o frame) (enabledAs b (run n (started d frame)))
   unfolding withEnabled
-  out b e =
-      let all : stepsOf (outcome d) frame ≤ n = rw same-steps (ltb-false n (stepsOf o frame) e) in
-      ended d frame o formed header alike (enabledAs b (run n (started d frame)))
-      (whole-after d frame none (formed .long (counterOf frame)) n all) (busy-as-told ∙ e)
+  out b e = ended d frame o formed header alike (enabledAs b (run n (started d frame))) (comes-whole e) (busy-as-told ∙ e)
 
 -- a command frame that finds the device idle
 module _ (o : Outcome) (d : Device) (accepted : refusal (o .image) ≡ 0) (r : Resting o d) (frame : List ℕ) where
@@ -242,10 +238,7 @@ module _ (frame : List ℕ) (done : ℕ) (o : Outcome) (d : Device) (w : Working
   -- or at its end: the device that its frame found has come to the page
   pub out-whole : ltb (m + done) (stepsOf o frame) ≡ false → outcome (run m d) ≡ whole (outcome (w .found)) frame
   unfolding withEnabled
-  out-whole end =
-      let quiet = busy-as-told (w .found) frame o (w .formed) (w .none) (w .header) (w .alike) (m + done) ∙ end in
-      ap outcome now-after ∙ ap outcome (same-end (m + done) start (no-job-idle (run (m + done) start .state) quiet))
-      ∙ runs-whole (w .found) frame (w .none) (w .formed .long (counterOf frame))
+  out-whole end = ap outcome now-after ∙ comes-whole (w .found) frame o (w .formed) (w .none) (w .header) (w .alike) (m + done) end
 
   works-out : ltb (m + done) (stepsOf o frame) ≡ false → Resting (whole o frame) (run m d)
   works-out end =

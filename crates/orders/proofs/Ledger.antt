@@ -27,13 +27,14 @@ use Rattle.progress.proofs.Runs.{run-idle}
 use Rattle.progress.proofs.Jobs.{runs}
 use Rattle.progress.proofs.Ends.{work-runs}
 use Rattle.rules.specs.Whole.{Outcome}
+use Rattle.rules.proofs.Kept.{formed-on}
 use Rattle.counters.specs.Compared.{Alike}
 use Rattle.orders.specs.Orders.{allCalled}
 use Rattle.orders.specs.Ledger.{Pending, None, Doing, Ledger, entry, isDoing, taken, worked, cut, heard, entered, ledger, opened, enabling}
 use Rattle.orders.specs.InStep.{JobOf, InStep}
 use Rattle.orders.proofs.Sound.{Resting, AsPending, Sound, rest-sound}
 use Rattle.orders.proofs.Interrupted.{below-now, kind-as-if}
-use Rattle.orders.proofs.Calls.{formed-on, accepted-now, enabled-only, cut-off, taken-on, worked-on}
+use Rattle.orders.proofs.Calls.{accepted-now, enabled-only, cut-off, taken-on, worked-on}
 
 -- the job that is there, if any, fits
 fits : (p : Pending) (o : Outcome) (d : Device) → AsPending p o d → Fits (count (d .image)) (d .state)

@@ -79,7 +79,7 @@ calls-header (call ∷ more) l d sound =
 
 -- what is compared of a counter grows, so its slot does
 grows : (before after : List ℕ) (c : ℕ) → GrowsTo (counterIn before c) (counterIn after c) → counterIn before c .value < 2 ^ 32 → Grows before after c
-unfolding counterIn
+unfolding counterIn pick
 grows before after c by word =
     record {
       stays-set = by .set;
