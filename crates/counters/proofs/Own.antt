@@ -1,6 +1,6 @@
 -- A frame reads its own counter and no other: devices that are the same to it come to the same. Assumes nothing.
 use Prim.Native.Nat.{ℕ, _<_}
-use mathlib.Core.Path.{_≡_, refl, ap, sym, _∙_}
+use mathlib.Core.Path.{_≡_, refl, ap, _∙_}
 use mathlib.Core.Bool.{Bool, true, false}
 use mathlib.Core.List.{List}
 use borrow.Author.Tests.{ltb-true, eqb-true}
@@ -14,7 +14,7 @@ use Rattle.image.proofs.Laid.{SameHeader}
 use Rattle.jobs.specs.Jobs.{commandOf}
 use Rattle.jobs.specs.declared.Kind.{Kind}
 use Rattle.jobs.specs.declared.Kind.the-variants.{RootKeyAndCounter, RootKey, SessionKey, Increment, Request, TemporaryKeyAndCounter, TemporaryKey}
-use Rattle.frames.specs.Layout.{typeOf, counterOf}
+use Rattle.frames.specs.Layout.{counterOf}
 use Rattle.checks.specs.Checks.{arrivalStatus}
 use Rattle.state.specs.declared.Key.{Key}
 use Rattle.state.specs.Parts.{noKey}

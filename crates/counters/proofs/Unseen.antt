@@ -1,7 +1,7 @@
 -- Stores that are not seen: nothing of what is compared of a counter goes by a key word while root is not set, by the value word while
 -- the counter is not set, or by what stands behind the slot's front. So any number of them in a row changes nothing. Assumes nothing.
-use Prim.Native.Nat.{ℕ, zero, suc, _+_, _≤_}
-use mathlib.Core.Path.{_≡_, refl, ap, sym, _∙_}
+use Prim.Native.Nat.{ℕ, zero, suc, _≤_}
+use mathlib.Core.Path.{_≡_, refl, ap, _∙_}
 use mathlib.Core.Logic.{inl, inr}
 use mathlib.Core.Bool.{Bool, true, false, not}
 use mathlib.Core.List.{List, [], _∷_}
@@ -10,7 +10,6 @@ use borrow.Author.Tests.{leb-true, eqb-true, not-true}
 use lib.Dec.{leb, eqb}
 use lib.ListN.{take}
 use Rattle.words.specs.Choice.{pick}
-use Rattle.words.specs.Table.{field}
 use Rattle.words.specs.Words.{wordAt, putWord}
 use Rattle.words.proofs.Choice.{never, both}
 use Rattle.words.proofs.Fields.{same-word}
