@@ -51,22 +51,6 @@ RootUnset o counter = isSet (slotOf (o .image) counter .«root_state») ≡ fals
 abbrev pub CounterSet : Outcome → ℕ → Type 0
 CounterSet o counter = isSet (slotOf (o .image) counter .«counter_state») ≡ true
 
--- what a frame that is carried out leaves. 00: the counter is paired, root and counter set, with this root key in use and this value
-pub record Paired (o : Outcome) (counter : ℕ) (root : List ℕ) (value : ℕ) : Type 0 where
-  pub order : InOrder o counter
-  pub root-set : isSet (slotOf (o .image) counter .«root_state») ≡ true
-  pub counter-set : CounterSet o counter
-  pub root-key : rootKey (o .image) counter ≡ root
-  pub value-kept : slotOf (o .image) counter .value ≡ value
-
--- 01: the counter is in session, with this session key and this value
-pub record InSession (o : Outcome) (counter : ℕ) (key : List ℕ) (value : ℕ) : Type 0 where
-  pub order : InOrder o counter
-  pub counter-set : CounterSet o counter
-  pub there : sessionOf o counter .there ≡ true
-  pub same-key : sessionOf o counter .bytes ≡ key
-  pub value-kept : slotOf (o .image) counter .value ≡ value
-
 -- checks 6 and 7. 00: root is unset. 01: the counter is set. 02 and 03: so it is, and it has a session key
 abbrev pub Awaited : Outcome → ℕ → Built → Type 0
 Awaited o counter (RootKeyBuilt key) = RootUnset o counter
@@ -82,3 +66,19 @@ Agreed o counter (SessionKeyBuilt root keyData) = rootKey (o .image) counter ≡
 Agreed o counter (IncrementBuilt key value) =
     (sessionOf o counter .bytes ≡ key) × (bytesOf (slotOf (o .image) counter .value) ≡ value) × (slotOf (o .image) counter .value < 0xFFFFFFFF)
 Agreed o counter (RequestBuilt key tag) = sessionOf o counter .bytes ≡ key
+
+-- what a frame that is carried out leaves. 00: the counter is paired, root and counter set, with this root key in use and this value
+pub record Paired (o : Outcome) (counter : ℕ) (root : List ℕ) (value : ℕ) : Type 0 where
+  pub order : InOrder o counter
+  pub root-set : isSet (slotOf (o .image) counter .«root_state») ≡ true
+  pub counter-set : CounterSet o counter
+  pub root-key : rootKey (o .image) counter ≡ root
+  pub value-kept : slotOf (o .image) counter .value ≡ value
+
+-- 01: the counter is in session, with this session key and this value
+pub record InSession (o : Outcome) (counter : ℕ) (key : List ℕ) (value : ℕ) : Type 0 where
+  pub order : InOrder o counter
+  pub counter-set : CounterSet o counter
+  pub there : sessionOf o counter .there ≡ true
+  pub same-key : sessionOf o counter .bytes ≡ key
+  pub value-kept : slotOf (o .image) counter .value ≡ value
