@@ -1,6 +1,8 @@
 /* The code of card.h. */
 #include "card.h"
 
+#include "card_line.h"
+
 #include <string.h>
 
 void card_start(struct card *card, struct card_line line, uint32_t counter, const uint8_t *root_key)
@@ -11,52 +13,98 @@ void card_start(struct card *card, struct card_line line, uint32_t counter, cons
     memcpy(card->root_key, root_key, RPMC_KEY_SIZE);
 }
 
-/* ---- the line */
-
-/* Reads until the device is not busy. A reply that got lost is read again: the device keeps it. */
-static enum card_outcome poll_card(struct card *card, uint8_t *reply, size_t length)
+static int no_fresh(struct card *card, uint8_t *bytes, size_t length)
 {
-    const struct card_line *line = &card->line;
-    enum card_outcome outcome = CARD_LOST;
-    for (int polls = 0; polls < CARD_POLLS; polls++) {
-        if (line->read(line->context, reply, length) != 0) {
-            card->lost++;
-        } else if ((reply[0] & RPMC_STATUS_BUSY) != 0) {
-            card->busy++;
-            outcome = CARD_STUCK;
-        } else {
+    return card->line.fresh(card->line.context, bytes, length) != 0;
+}
+
+/* ---- asking, once */
+
+static uint32_t number_of(const uint8_t bytes[RPMC_VALUE_SIZE])
+{
+    return (uint32_t)bytes[0] << 24 | (uint32_t)bytes[1] << 16 | (uint32_t)bytes[2] << 8 | bytes[3];
+}
+
+static uint32_t build_request(struct card *card, const uint8_t tag[RPMC_TAG_SIZE],
+                              uint8_t frame[RPMC_REQUEST_FRAME_SIZE])
+{
+    return rpmc_build_request(card->counter, card->session_key, RPMC_KEY_SIZE, tag, RPMC_TAG_SIZE, frame,
+                              RPMC_REQUEST_FRAME_SIZE);
+}
+
+/* A request with a tag that was never used: no other reply passes for its reply. What is not good may have
+ * come late, and is read again. */
+static enum card_outcome ask(struct card *card, const uint8_t tag[RPMC_TAG_SIZE], uint32_t *value)
+{
+    const uint8_t *key = card->session_key;
+    uint8_t frame[RPMC_REQUEST_FRAME_SIZE], reply[RPMC_REPLY_SIZE];
+    struct rpmc_reply_part part;
+    if (build_request(card, tag, frame) != RPMC_DONE)
+        return CARD_REFUSED;
+    enum card_outcome outcome = line_send(card, frame, sizeof frame);
+    for (int late = 0; late <= CARD_LATE && outcome == CARD_GOOD; late++) {
+        outcome = line_read(card, reply, sizeof reply, 0);
+        if (outcome == CARD_GOOD &&
+            rpmc_read_reply(key, RPMC_KEY_SIZE, tag, RPMC_TAG_SIZE, reply, sizeof reply) == RPMC_GOOD) {
+            rpmc_part(key, RPMC_KEY_SIZE, tag, RPMC_TAG_SIZE, reply, sizeof reply, &part);
+            *value = number_of(part.bytes);
+            card->in_session = 1;
             return CARD_GOOD;
         }
-        line->wait(line->context);
+        card->line.wait(card->line.context);
     }
-    return outcome;
+    return outcome == CARD_GOOD ? CARD_LOST : outcome;
 }
 
-/* Sends a frame, and reads what the device has when it is done with it. */
-static enum card_outcome exchange(struct card *card, const uint8_t *frame, size_t frame_length,
-                                  uint8_t *reply, size_t reply_length)
+static enum card_outcome request_once(struct card *card, uint32_t *value)
 {
-    if (card->line.send(card->line.context, frame, frame_length) != 0)
-        return CARD_LOST;
-    return poll_card(card, reply, reply_length);
+    uint8_t tag[RPMC_TAG_SIZE];
+    return no_fresh(card, tag, sizeof tag) ? CARD_NO_FRESH : ask(card, tag, value);
 }
 
-/* What the status of a device that is not busy says about a frame other than a root key frame. */
-static enum card_outcome meaning(uint8_t status)
+/* ---- opening a session */
+
+/* A session key frame; then a request, whose signed reply shows that the device has the session key. The
+ * status of the first is not looked at. */
+static enum card_outcome open_once(struct card *card, uint32_t *value)
 {
+    uint8_t key_data[RPMC_KEY_DATA_SIZE], tag[RPMC_TAG_SIZE], frame[RPMC_SESSION_KEY_FRAME_SIZE];
+    if (no_fresh(card, key_data, sizeof key_data) || no_fresh(card, tag, sizeof tag))
+        return CARD_NO_FRESH;
+    if (rpmc_build_session_key(card->counter, card->root_key, RPMC_KEY_SIZE, key_data, sizeof key_data, frame,
+                               sizeof frame) != RPMC_DONE)
+        return CARD_REFUSED;
+    card->in_session = 0; /* from now on nobody knows which key the device has, until a signed reply comes */
+    (void)rpmc_session_key(card->root_key, RPMC_KEY_SIZE, key_data, sizeof key_data, card->session_key,
+                           sizeof card->session_key);
+    enum card_outcome outcome = line_send(card, frame, sizeof frame);
+    return outcome == CARD_GOOD ? ask(card, tag, value) : outcome;
+}
+
+/* What the device says to a session key frame under this root key. */
+static enum card_outcome session_key_status(struct card *card, const uint8_t *root_key, uint8_t *status)
+{
+    uint8_t key_data[RPMC_KEY_DATA_SIZE], frame[RPMC_SESSION_KEY_FRAME_SIZE];
+    if (no_fresh(card, key_data, sizeof key_data))
+        return CARD_NO_FRESH;
+    (void)rpmc_build_session_key(card->counter, root_key, RPMC_KEY_SIZE, key_data, sizeof key_data, frame,
+                                 sizeof frame);
+    return line_status(card, frame, sizeof frame, status);
+}
+
+/* Whether the device has the counter at all: to other frames for one that it has not it says 04h. */
+static enum card_outcome look_for_counter(struct card *card)
+{
+    uint8_t dud[RPMC_ROOT_KEY_FRAME_SIZE], status;
+    line_dud(card, dud);
+    enum card_outcome outcome = line_status(card, dud, sizeof dud, &status);
+    if (outcome != CARD_GOOD)
+        return outcome;
     switch (status) {
-    case RPMC_STATUS_DONE:
-        return CARD_GOOD;
-    case RPMC_STATUS_POWER_ON: /* the frame did not arrive, or power was cut after it had */
-        return CARD_LOST;
     case RPMC_STATUS_ROOT_KEY:
-        return CARD_UNPAIRED;
-    case RPMC_STATUS_WRONG_SIGNATURE:
-        return CARD_COPY;
-    case RPMC_STATUS_NO_SESSION_KEY:
-        return CARD_NO_SESSION;
-    case RPMC_STATUS_WRONG_VALUE:
-        return CARD_MOVED;
+        return CARD_GOOD;
+    case RPMC_STATUS_NO_COUNTER:
+        return CARD_NO_COUNTER;
     case RPMC_STATUS_FATAL:
         return CARD_WORN;
     default:
@@ -64,143 +112,173 @@ static enum card_outcome meaning(uint8_t status)
     }
 }
 
-/* Sends a frame that has a status for its only answer. */
-static enum card_outcome command(struct card *card, const uint8_t *frame, size_t length)
+/* Of a device that says 04h to our root key: while it has none of its own, the temporary key is in use. */
+static enum card_outcome look_for_root_key(struct card *card)
 {
-    uint8_t status = 0;
-    enum card_outcome outcome = exchange(card, frame, length, &status, 1);
-    return outcome == CARD_GOOD ? meaning(status) : outcome;
-}
-
-/* Whether an outcome may be a frame's, lost or damaged on its way, and not the card's. */
-static int may_pass(enum card_outcome outcome)
-{
-    return outcome == CARD_LOST || outcome == CARD_COPY || outcome == CARD_NO_SESSION;
-}
-
-/* ---- one try of each operation */
-
-static uint32_t number_of(const uint8_t bytes[RPMC_VALUE_SIZE])
-{
-    return (uint32_t)bytes[0] << 24 | (uint32_t)bytes[1] << 16 | (uint32_t)bytes[2] << 8 | bytes[3];
-}
-
-/* A request, always with a fresh tag: a reply to an earlier one is then known by its own. */
-static enum card_outcome request_once(struct card *card, uint32_t *value)
-{
-    const uint8_t *key = card->session_key;
-    uint8_t tag[RPMC_TAG_SIZE], frame[RPMC_REQUEST_FRAME_SIZE], reply[RPMC_REPLY_SIZE];
-    struct rpmc_reply_part part;
-    card->line.fresh(card->line.context, tag, sizeof tag);
-    if (rpmc_build_request(card->counter, key, RPMC_KEY_SIZE, tag, sizeof tag, frame, sizeof frame) != RPMC_DONE)
-        return CARD_REFUSED;
-    enum card_outcome outcome = exchange(card, frame, sizeof frame, reply, sizeof reply);
+    uint8_t temporary[RPMC_KEY_SIZE], status;
+    memset(temporary, 0xff, sizeof temporary);
+    enum card_outcome outcome = session_key_status(card, temporary, &status);
     if (outcome != CARD_GOOD)
         return outcome;
-    switch (rpmc_read_reply(key, RPMC_KEY_SIZE, tag, sizeof tag, reply, sizeof reply)) {
-    case RPMC_GOOD:
-        rpmc_part(key, RPMC_KEY_SIZE, tag, sizeof tag, reply, sizeof reply, &part);
-        *value = number_of(part.bytes);
-        return CARD_GOOD;
-    case RPMC_FAILED:
-        return meaning(reply[0]);
-    case RPMC_WRONG_TAG: /* the request got lost, and this is what was there before */
-        return CARD_LOST;
-    case RPMC_WRONG_SIGNATURE:
+    switch (status) {
+    case RPMC_STATUS_DONE:
+        return CARD_UNFINISHED;
+    case RPMC_STATUS_WRONG_SIGNATURE:
         return CARD_COPY;
-    default: /* busy was polled away, and the lengths are right */
+    default:
         return CARD_WRONG;
     }
 }
 
-/* A session key frame; then a request, whose signed reply shows that the device has the session key. */
-static enum card_outcome open_once(struct card *card)
+/* Why there is no signed reply under a new session key. Lost means: try again. */
+static enum card_outcome why_not_open(struct card *card)
 {
-    uint8_t key_data[RPMC_KEY_DATA_SIZE], frame[RPMC_SESSION_KEY_FRAME_SIZE];
-    uint32_t value;
-    card->line.fresh(card->line.context, key_data, sizeof key_data);
-    if (rpmc_build_session_key(card->counter, card->root_key, RPMC_KEY_SIZE, key_data, sizeof key_data, frame,
-                               sizeof frame) != RPMC_DONE)
-        return CARD_REFUSED;
-    enum card_outcome outcome = command(card, frame, sizeof frame);
+    uint8_t status = RPMC_STATUS_POWER_ON;
+    enum card_outcome outcome = look_for_counter(card);
+    if (outcome == CARD_GOOD)
+        outcome = session_key_status(card, card->root_key, &status);
     if (outcome != CARD_GOOD)
         return outcome;
-    (void)rpmc_session_key(card->root_key, RPMC_KEY_SIZE, key_data, sizeof key_data, card->session_key,
-                           sizeof card->session_key);
-    return request_once(card, &value);
+    switch (status) {
+    case RPMC_STATUS_DONE: /* so it was a frame or a reply that got lost */
+        return CARD_LOST;
+    case RPMC_STATUS_ROOT_KEY:
+        return CARD_UNPAIRED;
+    case RPMC_STATUS_WRONG_SIGNATURE:
+        return look_for_root_key(card);
+    default:
+        return CARD_WRONG;
+    }
 }
 
-static enum card_outcome pair_once(struct card *card)
+/* A copy is one each time that it is asked: a frame that was damaged on its way gets 04h too. */
+static enum card_outcome open_session(struct card *card, uint32_t *value)
 {
-    uint8_t frame[RPMC_ROOT_KEY_FRAME_SIZE], status = 0;
-    if (rpmc_build_root_key(card->counter, card->root_key, RPMC_KEY_SIZE, frame, sizeof frame) != RPMC_DONE)
-        return CARD_REFUSED;
-    enum card_outcome outcome = exchange(card, frame, sizeof frame, &status, 1);
+    int copies = 0;
+    for (int tries = 0; tries < CARD_TRIES; tries++) {
+        enum card_outcome outcome = open_once(card, value);
+        if (outcome == CARD_LOST)
+            outcome = why_not_open(card);
+        if (outcome == CARD_COPY)
+            copies++;
+        else if (outcome != CARD_LOST)
+            return outcome;
+    }
+    return copies == CARD_TRIES ? CARD_COPY : CARD_LOST;
+}
+
+/* ---- keeping it */
+
+/* Why a request has no signed reply: by the status that the device gives to one. 08h says that it has no
+ * session key, 04h only that it has another one: the session is over, and nothing is said about the card.
+ * Lost means: ask again. */
+static enum card_outcome why_no_reply(struct card *card, uint8_t *status)
+{
+    uint8_t tag[RPMC_TAG_SIZE], frame[RPMC_REQUEST_FRAME_SIZE];
+    if (no_fresh(card, tag, sizeof tag))
+        return CARD_NO_FRESH;
+    (void)build_request(card, tag, frame);
+    enum card_outcome outcome = line_status(card, frame, sizeof frame, status);
     if (outcome != CARD_GOOD)
         return outcome;
-    /* 02h: a root key is there already. The session tells whose. */
-    if (status == RPMC_STATUS_DONE || status == RPMC_STATUS_ROOT_KEY)
-        return card_open(card);
-    return meaning(status);
+    switch (*status) {
+    case RPMC_STATUS_NO_SESSION_KEY:
+    case RPMC_STATUS_WRONG_SIGNATURE:
+        card->in_session = 0;
+        return CARD_LOST;
+    case RPMC_STATUS_DONE:
+        return CARD_LOST;
+    case RPMC_STATUS_FATAL:
+        return CARD_WORN;
+    default:
+        return CARD_WRONG;
+    }
 }
 
-static enum card_outcome increment_once(struct card *card, uint32_t value)
+/* A new session for one that ended with this status. */
+static enum card_outcome renew(struct card *card, uint8_t status, uint32_t *value)
 {
-    const uint8_t data[RPMC_VALUE_SIZE] = { (uint8_t)(value >> 24), (uint8_t)(value >> 16),
-                                            (uint8_t)(value >> 8), (uint8_t)value };
+    enum card_outcome outcome = open_session(card, value);
+    if (outcome == CARD_GOOD) {
+        card->renewals++;
+        card->odd_renewals += status == RPMC_STATUS_WRONG_SIGNATURE;
+    }
+    return outcome;
+}
+
+static enum card_outcome send_increment(struct card *card, uint32_t value)
+{
+    const uint8_t data[RPMC_VALUE_SIZE] = { (uint8_t)(value >> 24), (uint8_t)(value >> 16), (uint8_t)(value >> 8),
+                                            (uint8_t)value };
     uint8_t frame[RPMC_INCREMENT_FRAME_SIZE];
     if (rpmc_build_increment(card->counter, card->session_key, RPMC_KEY_SIZE, data, sizeof data, frame,
                              sizeof frame) != RPMC_DONE)
         return CARD_REFUSED;
-    return command(card, frame, sizeof frame);
+    return line_send(card, frame, sizeof frame);
+}
+
+/* One try of an increment: its own status is not looked at, the value behind it is asked for. */
+static enum card_outcome increment_once(struct card *card, uint32_t value, uint32_t *now)
+{
+    uint8_t tag[RPMC_TAG_SIZE];
+    if (no_fresh(card, tag, sizeof tag))
+        return CARD_NO_FRESH;
+    enum card_outcome outcome = send_increment(card, value);
+    if (outcome == CARD_GOOD)
+        outcome = ask(card, tag, now);
+    return outcome == CARD_LOST ? card_request(card, now) : outcome;
 }
 
 /* ---- the operations */
 
 enum card_outcome card_pair(struct card *card)
 {
-    enum card_outcome outcome = CARD_LOST;
-    for (int tries = 0; tries < CARD_TRIES && outcome == CARD_LOST; tries++)
-        outcome = pair_once(card);
+    uint8_t frame[RPMC_ROOT_KEY_FRAME_SIZE];
+    if (rpmc_build_root_key(card->counter, card->root_key, RPMC_KEY_SIZE, frame, sizeof frame) != RPMC_DONE)
+        return CARD_REFUSED;
+    enum card_outcome outcome = card_open(card);
+    for (int tries = 0; tries < CARD_TRIES && (outcome == CARD_UNPAIRED || outcome == CARD_UNFINISHED); tries++) {
+        outcome = line_send(card, frame, sizeof frame);
+        if (outcome == CARD_GOOD || outcome == CARD_LOST) /* its status is not looked at: the session tells */
+            outcome = card_open(card);
+    }
     return outcome;
 }
 
 enum card_outcome card_open(struct card *card)
 {
-    enum card_outcome outcome = CARD_LOST;
-    for (int tries = 0; tries < CARD_TRIES && may_pass(outcome); tries++)
-        outcome = open_once(card);
-    return outcome;
+    uint32_t value;
+    return open_session(card, &value);
 }
 
 enum card_outcome card_request(struct card *card, uint32_t *value)
 {
-    enum card_outcome outcome = request_once(card, value);
-    for (int tries = 1; tries < CARD_TRIES && may_pass(outcome); tries++) {
-        if (outcome == CARD_NO_SESSION) {
-            card->renewals++;
-            outcome = card_open(card);
-            if (outcome != CARD_GOOD)
-                return outcome;
-        }
-        outcome = request_once(card, value);
+    if (!card->in_session)
+        return open_session(card, value);
+    for (int tries = 0; tries < CARD_TRIES; tries++) {
+        uint8_t status = RPMC_STATUS_DONE;
+        enum card_outcome outcome = request_once(card, value);
+        if (outcome == CARD_LOST)
+            outcome = why_no_reply(card, &status);
+        if (outcome != CARD_LOST)
+            return outcome;
+        if (!card->in_session)
+            return renew(card, status, value);
     }
-    return outcome;
+    return CARD_LOST;
 }
 
+/* An increment is made once however often its frame is sent: the device compares the value. */
 enum card_outcome card_increment(struct card *card, uint32_t value)
 {
-    enum card_outcome said = CARD_LOST;
-    for (int tries = 0; tries < CARD_TRIES; tries++) {
-        uint32_t now = 0;
-        said = increment_once(card, value);
-        enum card_outcome outcome = card_request(card, &now);
-        if (outcome != CARD_GOOD)
-            return outcome;
-        if (now == value + 1)
-            return CARD_GOOD;
-        if (now != value)
-            return CARD_MOVED;
+    enum card_outcome outcome = card->in_session ? CARD_GOOD : card_open(card);
+    for (int tries = 0; tries < CARD_TRIES && outcome == CARD_GOOD; tries++) {
+        uint32_t now = value;
+        outcome = increment_once(card, value, &now);
+        if (outcome == CARD_GOOD && now != value)
+            return value != UINT32_MAX && now == value + 1 ? CARD_GOOD : CARD_MOVED;
     }
-    return said == CARD_GOOD ? CARD_WRONG : said;
+    if (outcome != CARD_GOOD)
+        return outcome;
+    return value == UINT32_MAX ? CARD_WORN : CARD_LOST;
 }

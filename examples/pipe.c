@@ -45,29 +45,54 @@ void pipe_dip(struct pipe_device *device)
     ask(device, "P 0", answer);
 }
 
+void pipe_work(struct pipe_device *device, int steps)
+{
+    char answer[LONGEST_ANSWER];
+    fprintf(device->lines, "S %d", steps);
+    ask(device, "S 0 ", answer);
+}
+
+/* A frame that is cut short is of no kind, nor is one that carries the temporary key. */
+static enum pipe_kind kind_of(const uint8_t *frame, size_t length)
+{
+    int temporary = length > 4 && frame[1] == PIPE_ROOT_KEY && frame[4] == 0xff;
+    if (length < RPMC_SESSION_KEY_FRAME_SIZE || frame[1] > PIPE_REQUEST || temporary)
+        return PIPE_OTHER;
+    return (enum pipe_kind)frame[1];
+}
+
+/* A frame as it arrives: with a wrong bit in its signature, or for a counter that no device has. */
+static void pass_on(struct pipe_device *device, const uint8_t *frame, size_t length, int damaged)
+{
+    char answer[LONGEST_ANSWER];
+    fputs("F ", device->lines);
+    for (size_t i = 0; i < length; i++) {
+        unsigned byte = i == 2 && device->missing ? RPMC_HIGHEST_COUNTER + 1u : frame[i];
+        fprintf(device->lines, "%02X", byte ^ (unsigned)(damaged && i == length - 1));
+    }
+    ask(device, "F 0", answer);
+}
+
 static int send_frame(void *context, const uint8_t *frame, size_t length)
 {
     struct pipe_device *device = context;
-    char answer[LONGEST_ANSWER];
-    if (device->lose_frames > 0) {
-        device->lose_frames--;
+    enum pipe_kind kind = kind_of(frame, length);
+    device->frames[kind]++;
+    if (device->lose_frames[kind] > 0) {
+        device->lose_frames[kind]--;
         return 0; /* nobody on a bus notices that a frame got lost */
     }
-    fputs("F ", device->lines);
-    for (size_t i = 0; i < length; i++)
-        fprintf(device->lines, "%02X", frame[i]);
-    ask(device, "F 0", answer);
+    int damaged = device->damage_frames[kind] > 0;
+    device->damage_frames[kind] -= damaged;
+    pass_on(device, frame, length, damaged);
+    device->mute |= device->mute_behind[kind];
     return 0;
 }
 
-static int read_reply(void *context, uint8_t *reply, size_t length)
+/* What the device has to say now. */
+static void read_now(struct pipe_device *device, uint8_t *reply, size_t length)
 {
-    struct pipe_device *device = context;
     char answer[LONGEST_ANSWER];
-    if (device->lose_replies > 0) {
-        device->lose_replies--;
-        return 1;
-    }
     fprintf(device->lines, "R %lu", (unsigned long)length);
     const char *digits = ask(device, "R 0 ", answer);
     if (strlen(digits) != 2 * length)
@@ -76,27 +101,48 @@ static int read_reply(void *context, uint8_t *reply, size_t length)
         char byte[] = { digits[2 * i], digits[2 * i + 1], '\0' };
         reply[i] = (uint8_t)strtoul(byte, NULL, 16);
     }
-    return 0;
+    if (device->says_04_for_08 && reply[0] == RPMC_STATUS_NO_SESSION_KEY)
+        reply[0] = RPMC_STATUS_WRONG_SIGNATURE;
+}
+
+/* A whole reply is read each time, so that it can be shown late; the driver asks for no more. */
+static int read_reply(void *context, uint8_t *reply, size_t length)
+{
+    struct pipe_device *device = context;
+    uint8_t now[RPMC_REPLY_SIZE];
+    read_now(device, now, sizeof now);
+    if (device->late_replies > 0) {
+        device->late_replies--;
+        memcpy(reply, device->shown, length);
+        return 0;
+    }
+    memcpy(device->shown, now, sizeof now);
+    memcpy(reply, now, length);
+    if (device->lose_replies > 0) {
+        device->lose_replies--;
+        return 1;
+    }
+    return device->mute;
 }
 
 /* While the driver waits, the device works: so many steps. */
 static void wait_a_little(void *context)
 {
     struct pipe_device *device = context;
-    char answer[LONGEST_ANSWER];
-    fprintf(device->lines, "S %d", device->steps);
-    ask(device, "S 0 ", answer);
+    pipe_work(device, device->steps);
     if (device->dip_at > 0 && --device->dip_at == 0)
         pipe_dip(device);
 }
 
-static void fresh_bytes(void *context, uint8_t *bytes, size_t length)
+static int fresh_bytes(void *context, uint8_t *bytes, size_t length)
 {
-    FILE *source = fopen("/dev/urandom", "rb");
-    (void)context;
-    if (source == NULL || fread(bytes, 1, length, source) != length)
-        give_up("no random bytes", "");
+    struct pipe_device *device = context;
+    FILE *source = device->no_fresh ? NULL : fopen("/dev/urandom", "rb");
+    if (source == NULL)
+        return 1;
+    size_t came = fread(bytes, 1, length, source);
     fclose(source);
+    return came != length;
 }
 
 struct card_line pipe_line(struct pipe_device *device)

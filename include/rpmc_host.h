@@ -7,25 +7,28 @@
  *   once in a card's life     rpmc_build_root_key, send, poll: the card is paired
  *   after each power-up or    rpmc_build_session_key, send, poll; at status 80h the device has a new
  *   reset of the device       session key, and rpmc_session_key gives the host the same one
- *   to count                  rpmc_build_increment, send, poll
+ *   to count                  rpmc_build_increment, send, poll; then ask for the value, to be sure
  *   to ask for the value      rpmc_build_request with a tag never used before, send, poll; then
  *                             rpmc_read_reply for the verdict, and rpmc_part for the value
  *
  * To send is to select the device, clock out every byte of the frame, and deselect it. To read is to
  * select it, clock out 96h and one dummy byte, clock in as many bytes as are wanted, and deselect it.
- * To poll is to read until bit 0 of the first byte, the status, is 0.
+ * To poll is to read until bit 0 of the first byte, the status, is 0. Poll also before a frame is sent, if
+ * the device may be at work on an earlier one: then it takes no command frame.
  *
  * Rules for every call
  *
  * Buffers    A buffer is a pointer and its length in bytes. It is the caller's before, during and
  *            after the call: nothing is kept, nothing is freed. All its bytes must be there, to be read
  *            or, in an output, to be written. It needs no alignment. The pointer is never NULL, not
- *            even where the length is 0: the address of any object will do there.
+ *            even where the length is 0: the address of any object will do there. `part` is not a
+ *            buffer but a pointer to a struct, for which the same holds but that it is aligned.
  * Overlap    An output (`frame`, `session_key`, `part`) shares no byte with another buffer of the call.
  *            Buffers that are only read may share bytes, or be the same.
  * Lengths    They are checked. A wrong one is refused by its number below; it is never undefined.
  * Refusals   A refused call writes nothing: its output is as it was found. The number that is given is
- *            that of the first refusal, in the order in which the function names them.
+ *            that of the first refusal, in the order in which the function names them. rpmc_part has no
+ *            number: it writes `part` in every case.
  * Numbers    Counter value, counter data and the words inside frames stand high byte first.
  * State      There is none. No call allocates, locks, waits, or calls the system, and none can fail but
  *            by its refusals. Calls may be made from several threads at once, and from signal and
@@ -70,7 +73,7 @@ extern "C" {
 /* Refusals. */
 #define RPMC_REFUSED_COUNTER 5 /* the counter number is above 3 */
 #define RPMC_REFUSED_LENGTH 6  /* a key is not 32 bytes, a tag not 12, key data or a value not 4 */
-#define RPMC_REFUSED_ROOM 7    /* the output is shorter than the frame */
+#define RPMC_REFUSED_ROOM 7    /* the output is shorter than the frame, or than the session key */
 #define RPMC_REFUSED_REPLY 8   /* the reply is not 49 bytes */
 
 /* Verdicts on a reply. The first one that applies is given, in this order; good is the last. */
@@ -82,24 +85,36 @@ extern "C" {
 
 /* ---- The status of a device, the first byte of a read
  *
- * It speaks of the last command frame that the device took. It is not signed: whoever has to be sure
- * asks for a value and reads the reply. While the device is busy it takes no command frame. */
+ * It speaks of the last command frame that the device took, for whichever counter that was. A frame that
+ * got lost, or came while the device was busy, is not taken and leaves the status of an earlier one: so a
+ * status is a frame's own only if something shows it, such as another status that was read before it was
+ * sent. And a status is not signed: whoever has to be sure asks for a value and reads the reply. */
 
 #define RPMC_STATUS_POWER_ON 0x00 /* none was taken since power-up or reset */
 #define RPMC_STATUS_BUSY 0x01     /* at work on it: every byte of a read is 01h */
 #define RPMC_STATUS_DONE 0x80     /* it succeeded */
 
 /* Root key frame: the counter has a root key already, which cannot be replaced; or the signature is
- * wrong. Session key frame: the counter is unset, that is, it was never paired. */
+ * wrong. Session key frame: the counter is unset, that is, it was never paired: pair it. */
 #define RPMC_STATUS_ROOT_KEY 0x02
 
-/* The signature is wrong: made under another key than the device's. For a session key frame that means
- * another root key, so the card is not the one that was paired. Given also for what the builders never
- * build (a type above 03, a wrong length, a reserved byte that is not 0), and for a counter that the
- * device does not have, unless the frame is a root key frame. */
+/* The signature is wrong: made under another key than the device's.
+ *
+ * Increment or request: the device has another session key than the host, and this says no more: a session
+ * key frame whose status the host never saw may have been taken, or the host has come back with an old key.
+ * It is no sign of a copy: open a new session and go on.
+ *
+ * Session key frame: the root key in use is another one. Either the card is paired with another root key,
+ * and is not the card that was paired with this one. Or its root key is not set, though its counter is:
+ * the pairing was cut off by a loss of power, or the key is temporary. Then a session key frame under 32
+ * bytes of FFh gives 80h: pair it again, it is no copy.
+ *
+ * Given also, but not to a root key frame, for a counter that the device does not have: it is no copy, and a
+ * root key frame gets 06h. Given also for a frame that was damaged on its way, and for what the builders
+ * never build: a type above 03, a wrong length, a reserved byte that is not 0. */
 #define RPMC_STATUS_WRONG_SIGNATURE 0x04
 
-/* Root key frame: the device does not have this counter. */
+/* Root key frame: the device does not have this counter. Other frames for it get 04h. */
 #define RPMC_STATUS_NO_COUNTER 0x06
 
 /* Increment or request: the device has no session key for this counter, as after every power-up and
@@ -142,11 +157,12 @@ uint32_t rpmc_build_session_key(uint32_t counter, const uint8_t *root_key, size_
                                 const uint8_t *key_data, size_t key_data_length, uint8_t *frame, size_t room);
 
 /* Makes the session key that this key data gives under this root key: the one that the device has once
- * it took the session key frame of the same two. All 32 bytes of `session_key` are written.
+ * the session key frame of the same two got 80h. `room` is the length of the output, `session_key`: the
+ * first 32 bytes are written, and the rest is as it was found.
  *
  * root_key, key_data   as in rpmc_build_session_key
  *
- * RPMC_DONE, or refused: RPMC_REFUSED_LENGTH. */
+ * RPMC_DONE, or refused: RPMC_REFUSED_LENGTH, RPMC_REFUSED_ROOM. */
 uint32_t rpmc_session_key(const uint8_t *root_key, size_t root_key_length, const uint8_t *key_data,
                           size_t key_data_length, uint8_t *session_key, size_t room);
 
@@ -191,9 +207,10 @@ struct rpmc_reply_part {
     size_t length;
 };
 
-/* The counter value in a reply: `part` becomes the 4 bytes from reply + 13 on if rpmc_read_reply gives
- * RPMC_GOOD for the same arguments, and a part of length 0 if it gives anything else, a refusal too. It
- * is written in every case, and what it held before means nothing. */
+/* The counter value in a reply. If rpmc_read_reply gives RPMC_GOOD for the same arguments, part->bytes
+ * becomes reply + 13 and part->length 4; if it gives anything else, a refusal too, part->length becomes 0
+ * and part->bytes something that is not to be looked at. Both are written in every case, and what they
+ * held before means nothing. */
 void rpmc_part(const uint8_t *session_key, size_t session_key_length, const uint8_t *tag, size_t tag_length,
                const uint8_t *reply, size_t reply_length, struct rpmc_reply_part *part);
 
