@@ -10,7 +10,8 @@ use lib.ListN.{getD}
 use Rattle.words.specs.Choice.{pick}
 use Rattle.words.specs.Words.{Bytes}
 use Rattle.words.proofs.Back.{word-small}
-use Rattle.image.specs.Header.{count}
+use Rattle.words.proofs.Choice.{either}
+use Rattle.image.specs.Header.{count, slotAt}
 use Rattle.image.specs.Slot.{slotOf, isSet}
 use Rattle.image.specs.Refusal.{refusal}
 use Rattle.image.proofs.Laid.{SameHeader, same-header}
@@ -25,7 +26,7 @@ use Rattle.progress.proofs.Kept.{run-header}
 use Rattle.counters.specs.Compared.{Counter, counterIn}
 use Rattle.counters.proofs.Growing.{GrowsTo, grows-self, grows-then}
 use Rattle.orders.specs.Orders.{allCalled}
-use Rattle.orders.specs.Ledger.{Pending, None, Doing, Ledger, entered, opened}
+use Rattle.orders.specs.Ledger.{Pending, None, Doing, Ledger, entered, ledger, opened}
 use Rattle.orders.specs.Growing.{Grows}
 use Rattle.orders.proofs.Sound.{AsPending, Sound}
 use Rattle.orders.proofs.Ledger.{not-refused, frame-done, next, all-sound, start-sound}
@@ -92,3 +93,23 @@ grows before after c by word =
         isSet (slotOf before c .«counter_state») ≡ true → isSet (slotOf after c .«counter_state») ≡ true →
         counterIn before c .value ≤ counterIn after c .value → slotOf before c .value ≤ slotOf after c .value
     falls set still h = rw (set, still) at h
+
+-- a value is a word, of an image of bytes
+value-word : (image : List ℕ) → Bytes image → (c : ℕ) → counterIn image c .value < 2 ^ 32
+unfolding counterIn slotOf
+value-word image bytes c =
+    either (λ (v : ℕ). v < 2 ^ 32) (isSet (slotOf image c .«counter_state»)) (slotOf image c .value) 0
+    (λ _. word-small image bytes (slotAt image c + 8)) (λ _. omega arith)
+
+-- From power-up on an accepted image of bytes: between any two moments of an order.
+pub monotonic :
+    (image : List ℕ) → refusal image ≡ 0 → Bytes image → (calls more : List Call) (c : ℕ) → c < count image →
+    Grows (allCalled calls (device image powerOn) .image) (allCalled more (allCalled calls (device image powerOn)) .image) c
+monotonic image accepted bytes calls more c inside =
+    let start = start-sound image accepted in
+    let d = allCalled calls (device image powerOn) in
+    let sound = all-sound calls (opened image) (device image powerOn) start in
+    let below : c < count (d .image) = rw (calls-header calls (opened image) (device image powerOn) start) inside in
+    let first = calls-grow calls (opened image) (device image powerOn) start c inside in
+    grows (d .image) (allCalled more d .image) c (calls-grow more (ledger calls (opened image)) d sound c below)
+    (first .value (value-word image bytes c) .1)
