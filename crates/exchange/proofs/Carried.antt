@@ -20,10 +20,9 @@ use Rattle.jobs.specs.declared.Command.the-variants.{WriteRootKey, UpdateSessio
 use Rattle.jobs.specs.declared.Kind.{Kind}
 use Rattle.state.specs.declared.Key.{Key}
 use Rattle.decision.specs.Decision.{decision}
-use Rattle.rules.specs.Whole.{Outcome, frameKept, kindIn, valueIn, keyIn, lastStatus, allChecks, carriedOut, whole}
+use Rattle.rules.specs.Whole.{Outcome, frameKept, kindIn, valueIn, keyIn, lastStatus, allChecks, carriedOut, whole, Verifies}
 use Rattle.rules.proofs.TenChecks.{all-checks}
 use Rattle.host.specs.Frames.{head, signedBy, rootKeyFrame, sessionKeyFrame, incrementFrame, requestFrame}
-use Rattle.exchange.specs.Passing.{Passes}
 use Rattle.exchange.specs.Built.{Built, RootKeyBuilt, SessionKeyBuilt, IncrementBuilt, RequestBuilt, frameOf}
 use Rattle.exchange.specs.Built.{Sized, sessionOf, InOrder, Awaited, Agreed, InSession}
 use Rattle.exchange.proofs.Fields.{data-sent}
@@ -59,7 +58,7 @@ module _ (o : Outcome) (counter : ℕ) where
   its-value b size = ap (λ (c : ℕ). slotOf (o .image) c .value) (built-form b counter size .named)
 
   -- check 8
-  signed : (b : Built) → Sized b → Agreed o counter b → Passes (commandBuilt b) o (frameOf counter b)
+  signed : (b : Built) → Sized b → Agreed o counter b → Verifies (commandBuilt b) o (frameOf counter b)
   signed (RootKeyBuilt key) size agreed = root-key-passes o counter key size
   signed (SessionKeyBuilt root keyData) size agreed = rw (← agreed) (session-key-passes o counter keyData size)
   signed (IncrementBuilt key value) size agreed =

@@ -15,13 +15,12 @@ use Rattle.hmac.specs.Hmac.{HMAC}
 use Rattle.jobs.specs.declared.Command.the-variants.{WriteRootKey, UpdateSessionKey, IncrementCounter, RequestCounter}
 use Rattle.image.specs.Slot.{rootKey}
 use Rattle.decision.specs.Signature.{signatureHolds}
-use Rattle.rules.specs.Whole.{Outcome, frameKept, keyIn}
+use Rattle.rules.specs.Whole.{Outcome, frameKept, keyIn, Verifies}
 use Rattle.host.specs.Frames.{head, signedBy, newSessionKey, rootKeyFrame, sessionKeyFrame, incrementFrame, requestFrame}
-use Rattle.exchange.specs.Passing.{Passes}
 use Rattle.exchange.proofs.Fields.{kept-field, root-key-sent, counter-sent, front-sent, data-sent, signature-sent}
 
 -- type 00, whatever the device
-pub root-key-passes : (o : Outcome) (counter : ℕ) (key : List ℕ) → length key ≡ 32 → Passes WriteRootKey o (rootKeyFrame counter key)
+pub root-key-passes : (o : Outcome) (counter : ℕ) (key : List ℕ) → length key ≡ 32 → Verifies WriteRootKey o (rootKeyFrame counter key)
 unfolding signatureHolds rootKeyFrame
 root-key-passes o counter key size =
     let frame = rootKeyFrame counter key in
@@ -48,7 +47,7 @@ same-sent key type counter bytes n size fits =
 -- type 01, built with the root key in use
 pub session-key-passes :
     (o : Outcome) (counter : ℕ) (keyData : List ℕ) → length keyData ≡ 4 →
-    Passes UpdateSessionKey o (sessionKeyFrame counter (rootKey (o .image) counter) keyData)
+    Verifies UpdateSessionKey o (sessionKeyFrame counter (rootKey (o .image) counter) keyData)
 unfolding signatureHolds sessionKeyFrame newSessionKey
 session-key-passes o counter keyData size =
     let key = HMAC (rootKey (o .image) counter) keyData in
@@ -61,14 +60,14 @@ session-key-passes o counter keyData size =
 -- types 02 and 03, built with the counter's session key
 pub increment-passes :
     (o : Outcome) (counter : ℕ) (key value : List ℕ) → length value ≡ 4 →
-    keyIn o (incrementFrame counter key value) .bytes ≡ key → Passes IncrementCounter o (incrementFrame counter key value)
+    keyIn o (incrementFrame counter key value) .bytes ≡ key → Verifies IncrementCounter o (incrementFrame counter key value)
 unfolding signatureHolds incrementFrame
 increment-passes o counter key value size same =
     rw (same, same-sent key 2 counter value 4 size (omega arith))
 
 pub request-passes :
     (o : Outcome) (counter : ℕ) (key tag : List ℕ) → length tag ≡ 12 →
-    keyIn o (requestFrame counter key tag) .bytes ≡ key → Passes RequestCounter o (requestFrame counter key tag)
+    keyIn o (requestFrame counter key tag) .bytes ≡ key → Verifies RequestCounter o (requestFrame counter key tag)
 unfolding signatureHolds requestFrame
 request-passes o counter key tag size same =
     rw (same, same-sent key 3 counter tag 12 size (omega arith))

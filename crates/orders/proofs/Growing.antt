@@ -37,7 +37,7 @@ use Rattle.orders.proofs.Interrupted.{header-found, own-cut, others-fou
 use Rattle.orders.proofs.Calls.{works-on, out-whole}
 
 -- what a frame that passes checks 1 to 7 has met, of what is compared
-starts-of : (image : List ℕ) (c : ℕ) (kind : Kind) → Facts kind (slotOf image c) → Starts kind (counterIn image c)
+pub starts-of : (image : List ℕ) (c : ℕ) (kind : Kind) → Facts kind (slotOf image c) → Starts kind (counterIn image c)
 unfolding counterIn
 starts-of image c RootKeyAndCounter (r, s) = (r, s, otherwise _ _ _ s)
 starts-of image c RootKey (r, s) = r
@@ -60,7 +60,7 @@ stores-of o frame SessionKey _ _ = tt
 stores-of o frame Increment set passed = rw set (refl, not-at-its-end o frame passed)
 stores-of o frame Request _ _ = tt
 
-none-cut : (kind : Kind) (p : Counter) → cutAt kind 0 p ≡ p
+pub none-cut : (kind : Kind) (p : Counter) → cutAt kind 0 p ≡ p
 unfolding pick
 none-cut RootKeyAndCounter p = refl
 none-cut RootKey p = refl
@@ -103,7 +103,7 @@ module _ (frame : List ℕ) (done : ℕ) (o : Outcome) (d : Device) (w : Working
       rw (own-cut frame done o d w, own-cut frame (m + done) o (run m d) (works-on frame done o d w m more))
       (grows-on kind p starts sofar (m + done - hashSteps (commandOf kind)) (omega arith))
 
-  others-on :
+  pub others-on :
       ltb (m + done) (stepsOf o frame) ≡ true → (k : ℕ) → k < count (found .image) → (k ≡ c → ⊥) →
       counterIn (run m d .image) k ≡ counterIn (d .image) k
   others-on more k inside apart =
@@ -125,7 +125,7 @@ module _ (frame : List ℕ) (done : ℕ) (o : Outcome) (d : Device) (w : Working
       let last : eqb (lastStatus (commandOf kind) found frame) 0 ≡ false = rw (all-checks found frame, w .passed) at e in
       rw (w .passed, last)
 
-  nothing-made : eqb (allChecks found frame) 0 ≡ false → sofar ≡ 0
+  pub nothing-made : eqb (allChecks found frame) 0 ≡ false → sofar ≡ 0
   nothing-made e =
       let few = steps-same frame found o (same-to frame found o (w .header) (w .alike)) in
       omega (arith, left, few, failed-steps e, checked-first (commandOf kind))
@@ -140,13 +140,13 @@ module _ (frame : List ℕ) (done : ℕ) (o : Outcome) (d : Device) (w : Working
       either (λ (x : Outcome). GrowsTo (cutAt kind sofar p) (counterIn (x .image) c)) (eqb (allChecks found frame) 0) _ _
       (λ e. carried (eqb-true (allChecks found frame) 0 e)) (λ e. failed e (allChecks found frame))
 
-  out-image : ltb (m + done) (stepsOf o frame) ≡ false → run m d .image ≡ whole found frame .image
+  pub out-image : ltb (m + done) (stepsOf o frame) ≡ false → run m d .image ≡ whole found frame .image
   out-image end = ap (λ (x : Outcome). x .image) (out-whole frame done o d w m end)
 
   own-out : ltb (m + done) (stepsOf o frame) ≡ false → GrowsTo (counterIn (d .image) c) (counterIn (run m d .image) c)
   own-out end = rw (own-cut frame done o d w, out-image end) own-whole
 
-  others-out :
+  pub others-out :
       ltb (m + done) (stepsOf o frame) ≡ false → (k : ℕ) → k < count (found .image) → (k ≡ c → ⊥) →
       counterIn (run m d .image) k ≡ counterIn (d .image) k
   others-out end k inside apart =

@@ -8,5 +8,7 @@ pub mod Ledger
 pub mod ItEnds
 pub mod Growing
 pub mod Monotonic
+pub mod Counting
+pub mod Counts
 pub mod Schedules
 pub mod Commutes

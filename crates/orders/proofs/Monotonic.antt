@@ -56,7 +56,7 @@ module _ (l : Ledger) (d : Device) (sound : Sound l d) where
   call-header (Frame bytes output) = rw (frame-image bytes output) (same-header (d .image))
   call-header (Work quota) = rw (work-image quota) (run-header quota d (not-refused l d sound))
 
-  call-grows : (call : Call) (k : ℕ) → k < count (d .image) → GrowsTo (counterIn (d .image) k) (counterIn (called call d .image) k)
+  pub call-grows : (call : Call) (k : ℕ) → k < count (d .image) → GrowsTo (counterIn (d .image) k) (counterIn (called call d .image) k)
   unfolding poweredUp
   call-grows PowerUp k inside = grows-self (counterIn (d .image) k)
   call-grows (Frame bytes output) k inside = rw (frame-image bytes output) (grows-self (counterIn (d .image) k))
@@ -95,7 +95,7 @@ grows before after c by word =
     falls set still h = rw (set, still) at h
 
 -- a value is a word, of an image of bytes
-value-word : (image : List ℕ) → Bytes image → (c : ℕ) → counterIn image c .value < 2 ^ 32
+pub value-word : (image : List ℕ) → Bytes image → (c : ℕ) → counterIn image c .value < 2 ^ 32
 unfolding counterIn slotOf
 value-word image bytes c =
     either (λ (v : ℕ). v < 2 ^ 32) (isSet (slotOf image c .«counter_state»)) (slotOf image c .value) 0

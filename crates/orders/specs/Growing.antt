@@ -8,8 +8,7 @@ use Rattle.image.specs.Slot.{slotOf, isSet, rootKey}
 use Rattle.jobs.specs.Jobs.{commandType}
 use Rattle.jobs.specs.declared.Command.the-variants.{IncrementCounter}
 use Rattle.frames.specs.Layout.{typeOf, counterOf}
-use Rattle.decision.specs.Signature.{signatureHolds}
-use Rattle.rules.specs.Whole.{frameKept, signature}
+use Rattle.rules.specs.Whole.{frameKept, Verifies}
 use Rattle.progress.specs.Steps.{stepsOf}
 use Rattle.device.specs.Work.{Device}
 use Rattle.device.specs.Calls.{Call, Work}
@@ -32,7 +31,7 @@ pub record Counts (l : Ledger) (call : Call) (before after : List ℕ) (c : ℕ)
   pub under-way : l .pending ≡ Doing frame done
   pub own : counterOf frame ≡ c
   pub increment : typeOf frame ≡ commandType IncrementCounter
-  pub verified : signatureHolds IncrementCounter (frameKept frame) (signature IncrementCounter (l .asIf) frame) ≡ true
+  pub verified : Verifies IncrementCounter (l .asIf) frame
   pub was-the-value : wordOr0 (frameKept frame) 4 ≡ slotOf before c .value
   pub last-step : (done < stepsOf (l .asIf) frame) × (stepsOf (l .asIf) frame ≤ quota + done)
   pub by-one : slotOf after c .value ≡ suc (slotOf before c .value)

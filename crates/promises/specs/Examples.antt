@@ -14,8 +14,7 @@ use Rattle.jobs.specs.declared.Command.the-variants.{WriteRootKey, IncrementCou
 use Rattle.frames.specs.Layout.{layoutOf, typeOf, counterOf, reservedOf}
 use Rattle.state.specs.Parts.{noKey, sessionKey}
 use Rattle.state.specs.Refusal.{deviceRefusal}
-use Rattle.decision.specs.Signature.{signatureHolds}
-use Rattle.rules.specs.Whole.{frameKept, isTemporary, signature}
+use Rattle.rules.specs.Whole.{frameKept, isTemporary, Verifies}
 use Rattle.device.specs.Work.{Device}
 use Rattle.device.specs.Calls.{Call, PowerUp, Frame, Work, outcome, isBusy}
 
@@ -67,7 +66,7 @@ pub record InOrder (type : ℕ) (frame : List ℕ) : Type 0 where
   pub named : counterOf frame < 4
 
 abbrev pub Good : Command → Device → List ℕ → Type 0
-Good command d frame = signatureHolds command (frameKept frame) (signature command (outcome d) frame) ≡ true
+Good command d frame = Verifies command (outcome d) frame
 
 -- P9, P10: a root key frame with a key that is not all FFh, for a counter with nothing set, and with a good signature
 pub record Pairs (d : Device) (frame : List ℕ) : Type 0 where

@@ -11,9 +11,8 @@ use Rattle.words.specs.Rows.{Row}
 use Rattle.words.specs.Words.{wordOr0}
 use Rattle.words.proofs.Rows.{none-fails}
 use Rattle.jobs.specs.declared.Command.the-variants.{IncrementCounter}
-use Rattle.decision.specs.Signature.{signatureHolds}
 use Rattle.decision.specs.Decision.{lastChecksOf, decision}
-use Rattle.rules.specs.Whole.{Outcome, frameKept, valueIn, signature, lastStatus}
+use Rattle.rules.specs.Whole.{Outcome, frameKept, valueIn, signature, Verifies, lastStatus}
 
 module _ (o : Outcome) (frame : List ℕ) (passed : lastStatus IncrementCounter o frame ≡ 0) where
   abbrev rows : List (Row ℕ)
@@ -23,7 +22,7 @@ module _ (o : Outcome) (frame : List ℕ) (passed : lastStatus IncrementCounter 
   unfolding lastStatus decision pick
   row = none-fails rows refl passed
 
-  pub signature-verified : signatureHolds IncrementCounter (frameKept frame) (signature IncrementCounter o frame) ≡ true
+  pub signature-verified : Verifies IncrementCounter o frame
   unfolding pick
   signature-verified = not-false _ (row 1)
 

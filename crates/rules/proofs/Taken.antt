@@ -12,7 +12,7 @@ use Rattle.words.proofs.Choice.{never, either}
 use Rattle.words.proofs.Rows.{none-fails}
 use Rattle.image.specs.Header.{count}
 use Rattle.image.specs.declared.Slot.{Slot}
-use Rattle.image.specs.Slot.{slotOf, isSet}
+use Rattle.image.specs.Slot.{slotOf, isSet, isBad}
 use Rattle.frames.specs.Layout.{typeOf, counterOf}
 use Rattle.jobs.specs.Jobs.{rootKind, kindOf}
 use Rattle.jobs.specs.declared.Kind.{Kind}
@@ -58,6 +58,12 @@ module _ (o : Outcome) (frame : List ℕ) (passed : statusOnArrival (o .image) (
 
   pub below-count : c < count (o .image)
   below-count = ltb-true c (count (o .image)) (not-false _ (row 4))
+
+  pub type-named : typeOf frame ≤ 3
+  type-named = ltb-false 3 (typeOf frame) (row 0)
+
+  pub sound-slot : isBad slot ≡ false
+  sound-slot = row 5
 
   pub root-unset : eqb (typeOf frame) 0 ≡ true → isSet (slot .«root_state») ≡ false
   unfolding pick

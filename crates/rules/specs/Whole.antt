@@ -1,6 +1,7 @@
 -- Document 01, "A taken OP1 frame" and "Steps", as one page: what a command frame that finds the device idle comes to, once its
 -- job has run to its end. Assumes nothing.
 use Prim.Native.Nat.{ℕ, _+_, _%_, _^_}
+use mathlib.Core.Path.{_≡_}
 use mathlib.Core.Bool.{Bool, true}
 use mathlib.Core.List.{List, _++_}
 use lib.Dec.{eqb}
@@ -20,6 +21,7 @@ use Rattle.jobs.specs.Jobs.{commandOf, commandType, kindOf}
 use Rattle.jobs.specs.declared.Command.{Command}
 use Rattle.jobs.specs.declared.Command.the-variants.{WriteRootKey, UpdateSessionKey, IncrementCounter, RequestCounter}
 use Rattle.jobs.specs.declared.Kind.{Kind}
+use Rattle.decision.specs.Signature.{signatureHolds}
 use Rattle.decision.specs.Decision.{lastChecksOf, decision}
 use Rattle.plan.specs.Stores.{stores}
 use Rattle.plan.specs.Storing.{allStored}
@@ -66,6 +68,10 @@ signingKey BySessionKey o frame = keyIn o frame .bytes
 abbrev pub signature : Command → Outcome → List ℕ → List ℕ
 signature command o frame =
     HMAC (signingKey (layoutOf (commandType command) .signer) o frame) (signedIn (commandType command) (frameKept frame))
+
+-- the signature in a frame verifies
+abbrev pub Verifies : Command → Outcome → List ℕ → Type 0
+Verifies command o frame = signatureHolds command (frameKept frame) (signature command o frame) ≡ true
 
 -- the status of checks 1 to 7, 0 if none fails
 unfoldable pub statusOnArrival : List ℕ → List Key → List ℕ → ℕ
