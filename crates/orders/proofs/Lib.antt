@@ -1,4 +1,5 @@
--- Along any order of calls the device is as if the frames that found it idle had run whole.
+-- Along any order of calls the device is as if the frames that found it idle had run whole; its counters grow, and what is not theirs
+-- is never touched; and without a restart frames of different counters commute.
 pub mod Orders
 pub mod Sound
 pub mod SameSteps
@@ -10,5 +11,6 @@ pub mod Growing
 pub mod Monotonic
 pub mod Counting
 pub mod Counts
+pub mod Touched
 pub mod Schedules
 pub mod Commutes

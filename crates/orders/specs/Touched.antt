@@ -1,15 +1,21 @@
--- What is never touched: header, gap, tail, bytes 12 to 15 of a slot, bad slots, and the slots of all other counters. Assumes nothing.
-use Prim.Native.Nat.{ℕ, _+_, _≤_, _<_}
+-- What is never touched: header, gap and tail, bytes 12 to 15 of a slot, bad slots, and the slots of counters that no frame is for.
+-- Assumes nothing.
+use Prim.Native.Nat.{ℕ, _<_}
 use mathlib.Core.Path.{_≡_}
 use mathlib.Core.Logic.{_⊎_}
-use mathlib.Core.Bool.{false}
-use mathlib.Core.List.{List}
-use Rattle.image.specs.Header.{count, slotAt}
+use mathlib.Core.Bool.{true}
+use mathlib.Core.List.{List, []}
+use Rattle.image.specs.Header.{count}
 use Rattle.image.specs.Slot.{slotOf, isBad}
+use Rattle.device.specs.Calls.{Call}
+use Rattle.progress.specs.Spared.{Spared}
+use Rattle.counters.specs.Reordering.{ownFrames}
+use Rattle.orders.specs.Ledger.{opened}
+use Rattle.orders.specs.Schedules.{framesTaken}
 
--- the bytes that frames of a counter may change: those of its slot, if that is not bad, but for bytes 12 to 15
-pub record Own (image : List ℕ) (c i : ℕ) : Type 0 where
-  pub below : c < count image
-  pub good : isBad (slotOf image c) ≡ false
-  pub from-the-slot : slotAt image c ≤ i
-  pub words : (i < slotAt image c + 12) ⊎ ((slotAt image c + 16 ≤ i) × (i < slotAt image c + 48))
+-- a byte that no frame of the order may change: for every counter it is not among the bytes in use of its slot, or that slot is bad, or
+-- the order takes no frame of that counter
+abbrev pub Untouched : List ℕ → List Call → ℕ → Type 0
+Untouched image calls i =
+    (c : ℕ) → c < count image →
+    Spared image c i ⊎ (isBad (slotOf image c) ≡ true) ⊎ (ownFrames c (framesTaken calls (opened image)) ≡ [])

@@ -6,6 +6,7 @@ use mathlib.Core.List.{List}
 use native.Mathlib.Omega.{arith}
 use borrow.Author.Tests.{ltb-true, ltb-false, eqb-true, eqb-false, not-false, lt-ltb}
 use lib.Dec.{ltb, eqb}
+use lib.ListN.{length}
 use Rattle.words.specs.Choice.{pick}
 use Rattle.words.specs.Rows.{Row}
 use Rattle.words.proofs.Choice.{never, either}
@@ -13,7 +14,8 @@ use Rattle.words.proofs.Rows.{none-fails}
 use Rattle.image.specs.Header.{count}
 use Rattle.image.specs.declared.Slot.{Slot}
 use Rattle.image.specs.Slot.{slotOf, isSet, isBad}
-use Rattle.frames.specs.Layout.{typeOf, counterOf}
+use Rattle.frames.specs.Layout.{layoutOf, typeOf, counterOf}
+use Rattle.frames.proofs.Layouts.{long-frames}
 use Rattle.jobs.specs.Jobs.{rootKind, kindOf}
 use Rattle.jobs.specs.declared.Kind.{Kind}
 use Rattle.jobs.specs.declared.Kind.the-variants.{RootKeyAndCounter, RootKey, SessionKey, Increment, Request, TemporaryKeyAndCounter, TemporaryKey}
@@ -61,6 +63,11 @@ module _ (o : Outcome) (frame : List ℕ) (passed : statusOnArrival (o .image) (
 
   pub type-named : typeOf frame ≤ 3
   type-named = ltb-false 3 (typeOf frame) (row 0)
+
+  pub long-enough : 2 < length frame
+  long-enough =
+      let size = eqb-true (length frame) (layoutOf (typeOf frame) .size) (not-false _ (row 1)) in
+      omega (arith, size, long-frames (typeOf frame) type-named)
 
   pub sound-slot : isBad slot ≡ false
   sound-slot = row 5
