@@ -1,5 +1,6 @@
 -- The promises, proved.
 pub mod Functions
+pub mod Entry
 pub mod ExamplesCalls
 pub mod ExamplesArrival
 pub mod ExamplesJobs

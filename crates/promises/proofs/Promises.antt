@@ -1,11 +1,16 @@
--- The promises, all of them in one place, each under document 01's words or those of its three demands. Their proofs are in the files
--- beside this one. Assumes nothing.
-use Prim.Native.Nat.{ℕ, _+_, _≤_, _<_, min}
+-- The promises, all of them in one place. What stands in quotes is document 01's. Their proofs are in the files that each names. Assumes
+-- nothing.
+use Prim.Native.Nat.{ℕ, suc, _+_, _≤_, _<_, min}
 use mathlib.Core.Path.{_≡_}
-use mathlib.Core.Bool.{true, false}
+use mathlib.Core.Bool.{Bool, true, false}
 use mathlib.Core.List.{List, [], _∷_}
 use lib.Dec.{ltb}
-use lib.ListN.{length, getD, replicate}
+use lib.ListN.{length, getD, replicate, take}
+use Rattle.words.specs.Choice.{pick}
+use Rattle.words.specs.Rows.{firstFailing}
+use Rattle.words.specs.Words.{Bytes, bytesOf}
+use Rattle.image.specs.declared.Slot.{Slot}
+use Rattle.image.specs.Slot.{slotOf, isSet, rootKey}
 use Rattle.image.specs.Header.{count}
 use Rattle.image.specs.Refusal.{refusal}
 use Rattle.frames.specs.declared.Class.the-variants.{Read, CommandFrame}
@@ -21,9 +26,10 @@ use Rattle.device.specs.Work.{Device, run}
 use Rattle.device.specs.Calls.{device, After, Call, PowerUp, Frame, Work, called, after, outcome, isBusy}
 use Rattle.device.proofs.AfterCalls as AfterCalls
 use Rattle.progress.specs.Steps.{stepsOf}
-use Rattle.progress.proofs.Ends as Ends
+use Rattle.progress.proofs.Ends as Ending
+use Rattle.progress.proofs.Adds as Adds
 use Rattle.rules.proofs.TooShort as TooShort
-use Rattle.rules.specs.Whole.{Outcome, failedWith, whole}
+use Rattle.rules.specs.Whole.{Outcome, statusOnArrival, allChecks, failedWith, whole}
 use Rattle.counters.specs.Compared.{counterIn, Alike}
 use Rattle.rules.specs.Formed.{Formed}
 use Rattle.counters.specs.Reordering.{ownFrames, allWhole, ownStatuses}
@@ -32,10 +38,24 @@ use Rattle.orders.specs.Orders.{allCalled, answers, lastLeft}
 use Rattle.orders.specs.Ledger.{Ledger, isDoing, ledger, opened}
 use Rattle.orders.specs.InStep.{InStep}
 use Rattle.orders.specs.Schedules.{NoRestart, framesTaken, finals}
+use Rattle.orders.specs.Growing.{Grows, Counts}
+use Rattle.orders.specs.Touched.{Untouched}
 use Rattle.orders.proofs.Ledger as Along
+use Rattle.orders.proofs.Monotonic as Monotonic
+use Rattle.orders.proofs.Counts as Counts
+use Rattle.orders.proofs.Touched as Touched
 use Rattle.orders.proofs.Commutes as Commutes
 use Rattle.orders.proofs.ItEnds as ItEnds
-use Rattle.promises.specs.Functions.{Did, Ran}
+use Rattle.checks.specs.Checks.{checksOf}
+use Rattle.host.specs.Frames.{newSessionKey, rootKeyFrame, sessionKeyFrame, incrementFrame, requestFrame}
+use Rattle.host.specs.Reading.{GoodReply}
+use Rattle.exchange.specs.Built.{Built, frameOf, Sized, InOrder, RootUnset, CounterSet, Awaited, Agreed, Paired, InSession}
+use Rattle.exchange.specs.Exchange.{Idle, Ends, readFrom, ReadsGood}
+use Rattle.exchange.proofs.Arrives as Arrives
+use Rattle.exchange.proofs.Carried as Carried
+use Rattle.exchange.proofs.BothEnds as BothEnds
+use Rattle.promises.specs.Functions.{Did, Ran, ReplyRead}
+use Rattle.promises.proofs.Entry as Entry
 use Rattle.promises.specs.Examples.{Example, Ready, Given, script, Seen, Happens}
 use Rattle.promises.proofs.Functions as Functions
 use Rattle.promises.proofs.Examples as Examples
@@ -50,8 +70,8 @@ module _ (image : List ℕ) (accepted : refusal image ≡ 0) (calls : List Call)
   abbrev l : Ledger
   l = ledger calls (opened image)
 
-  -- "Whatever the order of frames, steps, resets and power cuts, once idle the device is as if the frames that found it idle had run
-  -- whole." What is compared is `Alike`.
+  -- Demand 3: whatever the order of frames, steps, resets and power cuts, once idle the device is as if the frames that found it idle had
+  -- run whole. What is compared is `Alike`.
   pub as-if-whole : isBusy d ≡ false → Alike (outcome d) (l .asIf)
   as-if-whole = Along.as-if-whole image accepted calls
 
@@ -67,7 +87,7 @@ module _ (image : List ℕ) (accepted : refusal image ≡ 0) (calls : List Call)
       after (Frame bytes output) d .output ≡ readOutput (isDoing (l .pending)) (l .asIf .status) (l .asIf .reply) (length output)
   reads = Along.reads image accepted calls
 
-  -- "Frames on different counters commute." Of a device that is idle, for any schedule: two orders of calls without a reset or a power
+  -- Demand 3: frames on different counters commute. Of a device that is idle, for any schedule: two orders of calls without a reset or a power
   -- cut, with any quotas of steps, reads and frames that are ignored, both of which leave it idle, and in which the frames taken for a
   -- counter are the same, in the same order. Then so are what is compared of the counter, its session key, and the final status of each
   -- of its frames.
@@ -78,6 +98,25 @@ module _ (image : List ℕ) (accepted : refusal image ≡ 0) (calls : List Call)
       × (getD (allCalled xs d .state .keys) c noKey ≡ getD (allCalled ys d .state .keys) c noKey)
       × (finals c xs l d ≡ finals c ys l d)
   device-commutes = Commutes.device-commutes image accepted calls
+
+  -- It is a monotonic counter: from here on, a set counter stays set and its value never falls, a set root stays set and its key never
+  -- changes. And if a call changes the value of a set counter, it is work, with the last step of an increment of it whose signature
+  -- verified and whose data was the value; and the value goes up by 1. The image is one of bytes.
+  pub monotonic : Bytes image → (more : List Call) (c : ℕ) → c < count image → Grows (d .image) (allCalled more d .image) c
+  monotonic bytes = Monotonic.monotonic image accepted bytes calls
+
+  pub counts-by-one :
+      Bytes image → (call : Call) (c : ℕ) → c < count image → isSet (slotOf (d .image) c .«counter_state») ≡ true →
+      (slotOf (called call d .image) c .value ≡ slotOf (d .image) c .value → ⊥) → Counts l call (d .image) (called call d .image) c
+  counts-by-one bytes = Counts.counts-by-one image accepted bytes calls
+
+  -- What is never touched: a byte of header, gap or tail, one of bytes 12 to 15 of a slot, of a bad slot, or of the slot of a counter that
+  -- no frame taken is for. And the image keeps its length.
+  pub never-touched : (i : ℕ) → Untouched image calls i → getD (d .image) i 0 ≡ getD image i 0
+  never-touched = Touched.never-touched image accepted calls
+
+  pub same-length : length (d .image) ≡ length image
+  same-length = Touched.same-length image accepted calls
 
   -- "So busy clears after at most 15 steps", which the longest job has: a work call with that quota leaves the device idle, a job that is
   -- there is older by the steps that each call reports, and has done fewer than the longest has.
@@ -163,7 +202,74 @@ pub longest-job : longest ≡ 15
 longest-job = Longest.longest-job
 
 pub longest-is-enough : (d : Device) → isRunning (run longest d .state) ≡ false
-longest-is-enough = Ends.longest-is-enough
+longest-is-enough = Ending.longest-is-enough
+
+-- Work of m + n steps is work of m and then of n, the steps reported too, of any device that is not refused: so a cut inside a call is a
+-- cut between two.
+pub work-adds :
+    (m n : ℕ) (d : Device) → deviceRefusal (d .image) (d .state) ≡ 0 →
+    (called (Work (m + n)) d ≡ called (Work n) (called (Work m) d))
+    × (after (Work (m + n)) d .steps ≡ after (Work m) d .steps + after (Work n) (called (Work m) d) .steps)
+work-adds m n d accepted = (Adds.work-adds m n d accepted, Adds.steps-add m n d accepted)
+
+-- Both ends. A frame that a host builds passes checks 1 to 3 of any device, 4 to 7 if its counter is in order and awaits it, and all ten if
+-- the keys, and of an increment the value, are the device's.
+pub built-in-form :
+    (b : Built) (counter : ℕ) → Sized b → (counters : ℕ) (slot : Slot) (hasKey : Bool) →
+    firstFailing (take 3 (checksOf (frameOf counter b) counters slot hasKey)) ≡ 0
+built-in-form = Arrives.built-in-form
+
+pub built-arrives :
+    (b : Built) (counter : ℕ) (o : Outcome) → Sized b → InOrder o counter → Awaited o counter b →
+    statusOnArrival (o .image) (o .keys) (frameOf counter b) ≡ 0
+built-arrives = Arrives.built-arrives
+
+pub built-passes :
+    (o : Outcome) (counter : ℕ) (b : Built) → Sized b → InOrder o counter → Awaited o counter b → Agreed o counter b →
+    allChecks o (frameOf counter b) ≡ 0
+built-passes = Carried.built-passes
+
+-- An idle device takes a built frame, and any work calls leave it idle again (`Ends`; `it-ends` says that there are such). Type 00: the
+-- root key in use is the one sent.
+pub root-key-in-use :
+    (counter : ℕ) (key : List ℕ) → length key ≡ 32 → Bytes key → (key ≡ replicate 32 255 → ⊥) → (d e : Device) → Idle d →
+    InOrder (outcome d) counter → RootUnset (outcome d) counter → Ends (rootKeyFrame counter key) d e →
+    Paired (outcome e) counter key (pick (isSet (slotOf (d .image) counter .«counter_state»)) (slotOf (d .image) counter .value) 0)
+root-key-in-use = BothEnds.root-key-in-use
+
+-- Type 01: the device's session key is the host's.
+pub session-key-shared :
+    (counter : ℕ) (root keyData : List ℕ) → length keyData ≡ 4 → (d e : Device) → Idle d → InOrder (outcome d) counter →
+    CounterSet (outcome d) counter → rootKey (d .image) counter ≡ root → Ends (sessionKeyFrame counter root keyData) d e →
+    InSession (outcome e) counter (newSessionKey root keyData) (slotOf (d .image) counter .value)
+session-key-shared = BothEnds.session-key-shared
+
+-- Type 02: the value is the next one. Type 03: a read of 49 bytes is read as good, with the device's value.
+pub value-counted :
+    (counter : ℕ) (key : List ℕ) (value : ℕ) (d e : Device) → Idle d → InSession (outcome d) counter key value → value < 0xFFFFFFFF →
+    Ends (incrementFrame counter key (bytesOf value)) d e → InSession (outcome e) counter key (suc value)
+value-counted = BothEnds.value-counted
+
+pub request-answered :
+    (counter : ℕ) (key tag : List ℕ) → length tag ≡ 12 → (value : ℕ) (d e : Device) → Idle d → InSession (outcome d) counter key value →
+    Ends (requestFrame counter key tag) d e → (dummy : ℕ) (buffer : List ℕ) → length buffer ≡ 49 →
+    ReadsGood key tag (readFrom e dummy buffer) value
+request-answered = BothEnds.request-answered
+
+-- Chained: an unset counter is paired, a session opened, a value asked for; the reply is read as good, and the value is 0.
+pub both-ends :
+    (d paired opened asked : Device) (counter : ℕ) (root keyData tag : List ℕ) → Idle d → InOrder (outcome d) counter →
+    RootUnset (outcome d) counter → isSet (slotOf (d .image) counter .«counter_state») ≡ false → length root ≡ 32 → Bytes root →
+    (root ≡ replicate 32 255 → ⊥) → length keyData ≡ 4 → length tag ≡ 12 → Ends (rootKeyFrame counter root) d paired →
+    Ends (sessionKeyFrame counter root keyData) paired opened → Ends (requestFrame counter (newSessionKey root keyData) tag) opened asked →
+    (dummy : ℕ) (buffer : List ℕ) → length buffer ≡ 49 → ReadsGood (newSessionKey root keyData) tag (readFrom asked dummy buffer) 0
+both-ends = BothEnds.both-ends
+
+-- A good verdict at the C entry: 0 is returned exactly when lengths, status, tag and signature are right.
+pub entry-says-good :
+    (key tag reply : List ℕ) (number : ℕ) → ReplyRead key tag reply number →
+    (number ≡ 0 → GoodReply key tag reply) × (GoodReply key tag reply → number ≡ 0)
+entry-says-good = Entry.entry-says-good
 
 -- "Refused calls change no lent byte, return the state handed in and report 0 steps; a refused power-up returns the power-on state."
 pub refused-frame :
@@ -178,6 +284,10 @@ refused-work = AfterCalls.refused-work
 
 pub any-power-up : (d : Device) → called PowerUp d ≡ device (d .image) powerOn
 any-power-up = AfterCalls.any-power-up
+
+-- On an image that power-up refuses every call is refused, with the same number.
+pub refused-image : (d : Device) (call : Call) → (refusal (d .image) ≡ 0 → ⊥) → after call d .number ≡ refusal (d .image)
+refused-image = AfterCalls.refused-image
 
 -- "Cases marked P are proved about the specification, as a single table under one theorem."
 pub cases-marked-P : (p : Example) (d : Device) (frame output : List ℕ) → Ready d → Given p d frame → Seen p d frame (allCalled (script p frame output) d)

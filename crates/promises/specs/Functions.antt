@@ -1,5 +1,6 @@
 -- Document 01, "Steps": a run made of calls of the functions power_up, frame and work, each handed the state and the image that the one
 -- before it left. Of a function only its contract is used, as the prover reads it from the source. Assumes nothing.
+use Prim.Native.Nat.{ℕ}
 use mathlib.Core.Path.{_≡_}
 use mathlib.Core.List.{List, [], _∷_}
 use denote.Ref.{now}
@@ -8,6 +9,7 @@ use Rattle.device.specs.Calls.{device, After, leaving, Call, PowerUp, Frame, Wo
 use Rattle.device.proofs.power_up.Reads as power-up-reads
 use Rattle.device.proofs.frame.Reads as frame-reads
 use Rattle.device.proofs.work.Reads as work-reads
+use Rattle.rpmc_host.proofs.rpmc_read_reply.Reads as read-reply-reads
 
 -- a call of a function: lifetimes, arguments, result and what is lent at exit, as its contract has them
 module _
@@ -39,3 +41,8 @@ Ran [] d [] = Unit {0}
 Ran [] d (left ∷ lefts) = ⊥
 Ran (call ∷ more) d [] = ⊥
 Ran (call ∷ more) d (left ∷ lefts) = Did call d left × Ran more (left .device) lefts
+
+-- the C entry rpmc_read_reply was called, with this session key, tag and reply, and returned this number
+abbrev pub ReplyRead : List ℕ → List ℕ → List ℕ → ℕ → Type 0
+ReplyRead key tag reply number =
+    Called read-reply-reads.Post (λ κs a. (now (a .0) ≡ key) × (now (a .1 .0) ≡ tag) × (now (a .1 .1 .0) ≡ reply)) (λ κs a x s. x ≡ number)
