@@ -64,6 +64,16 @@ fn over(t: Talk) -> Talk {
     last
 }
 
+// A read that failed. One that a signal has interrupted is made again; after any other the input has not ended, so the line under
+// way is no line, and standard error is told why.
+fn failed(t: Talk) -> Talk {
+    if os::errno() == libc::EINTR {
+        return t;
+    }
+    os::fail(b"rpmcrun: standard input");
+    over(t)
+}
+
 // Reads once, and goes over what came.
 fn listen(
     chunk: &mut [u8],
@@ -73,6 +83,9 @@ fn listen(
     out: &mut [u8; 517],
 ) -> Talk {
     let got = libc::read(STDIN_FILENO, chunk);
+    if got < 0 {
+        return failed(t);
+    }
     let n = io::count(got, chunk);
     if n == 0 {
         return end(image, t, line, out);
@@ -80,7 +93,7 @@ fn listen(
     hear(&chunk[..n], image, t, line, out)
 }
 
-// Answers the lines of standard input until it ends, or until an answer cannot be written.
+// Answers the lines of standard input until it ends, or until it cannot be read or an answer cannot be written.
 fn converse(image: &mut [u8], out: &mut [u8; 517]) {
     let mut chunk = io::large_buffer();
     let mut line = [0u8; 515];
