@@ -1,22 +1,25 @@
 #!/usr/bin/env python3
 """Tests that one can talk with rpmcrun over pipes: every line is answered when its newline has come, in
-however many pieces, and without waiting for the next.
+however many pieces, and without waiting for the next. And that an input which cannot be read has not ended.
 
 tests/rpmcrun/conversation.py COMMAND: the histories are random ones, with the answers of the model; each test
 is a program of its own.
 """
 
+import os
 import pathlib
 import random
+import socket
+import subprocess
 import sys
 
 sys.dont_write_bytecode = True  # nothing is written beside the sources
 sys.path[0] = str(pathlib.Path(__file__).resolve().parents[1])  # modules are named from tests/ on
 from rpmcrun.history import History  # noqa: E402
 from rpmcrun.reached import Reached  # noqa: E402
-from rpmcrun.talk import FIRST_LINE, Conversation, converse, expect, shown  # noqa: E402
+from rpmcrun.talk import FIRST_LINE, PATIENCE, Conversation, converse, expect, shown  # noqa: E402
 from rpmcrun.walks import Walk  # noqa: E402
-from shared.tally import Tally  # noqa: E402
+from shared.tally import Failed, Tally  # noqa: E402
 
 SEEDS = (1, 2)
 LINES = 1000
@@ -108,6 +111,42 @@ def unfinished(command, last):
         talk.end()
 
 
+# ---- an input that cannot be read
+
+
+def told_why(talk, why):
+    """Nothing more is said on standard output, and standard error is told why."""
+    said, errors = talk.process.communicate(timeout=PATIENCE)
+    expect("standard output", talk.heard + said, b"")
+    if why not in errors:
+        raise Failed(f"standard error is told `{shown(errors)}`, not `{shown(why)}`")
+    return shown(errors.strip())
+
+
+def broken_off(command):
+    """The input breaks off inside of a line, and no end of it came: the line is not answered. The other
+    end of a socket is shut while something for it is not yet read: the next read is refused."""
+    ours, theirs = socket.socketpair()
+    with ours, theirs, Conversation(command, stdin=theirs, stderr=subprocess.PIPE) as talk:
+        ours.sendall(b"R 1\nP")
+        expect("first line", talk.hear(), FIRST_LINE)
+        expect("answer to `R 1`", talk.hear(), b"R 0 00")
+        theirs.sendall(b"not read")
+        ours.close()
+        return told_why(talk, b"Connection reset by peer")
+
+
+def no_input(command):
+    """A folder in the place of an input: no line of it is answered."""
+    folder = os.open("/", os.O_RDONLY)
+    try:
+        with Conversation(command, stdin=folder, stderr=subprocess.PIPE) as talk:
+            expect("first line", talk.hear(), FIRST_LINE)
+            return told_why(talk, b"Is a directory")
+    finally:
+        os.close(folder)
+
+
 WRITES = {
     "a line in pieces": in_pieces,
     "a byte at a time": byte_by_byte,
@@ -129,6 +168,8 @@ def main():
     for last in UNFINISHED:
         name = f"conversation: ends after `{shown(last[:8])}`, {len(last)} bytes"
         tally.test(name, lambda: unfinished(command, last))
+    tally.test("conversation: breaks off after `P`, 1 byte", lambda: broken_off(command))
+    tally.test("conversation: a folder for an input", lambda: no_input(command))
     return tally.end()
 
 

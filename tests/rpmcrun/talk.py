@@ -15,8 +15,10 @@ FIRST_LINE = b"counters 4"  # what rpmcrun says before it reads
 class Conversation:
     """A running program, which is told a line and has to answer it before it is told the next."""
 
-    def __init__(self, command):
-        self.process = subprocess.Popen(command, stdin=subprocess.PIPE, stdout=subprocess.PIPE, bufsize=0)
+    def __init__(self, command, **pipes):
+        """`pipes`: another input than a pipe, or an output for its errors."""
+        pipes = {"stdin": subprocess.PIPE, "stdout": subprocess.PIPE} | pipes
+        self.process = subprocess.Popen(command, **pipes, bufsize=0)
         self.heard = b""
 
     def __enter__(self):
@@ -25,8 +27,9 @@ class Conversation:
     def __exit__(self, *_):
         self.process.kill()
         self.process.wait()
-        self.process.stdin.close()
-        self.process.stdout.close()
+        for pipe in (self.process.stdin, self.process.stdout, self.process.stderr):
+            if pipe:
+                pipe.close()
 
     def is_ready(self, seconds):
         """Whether something can be heard, or the end of the output, within some seconds."""

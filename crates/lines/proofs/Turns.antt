@@ -21,11 +21,11 @@ opens-long letter [] e = absurd (never (both _ _ e .1))
 opens-long letter (x ∷ []) e = absurd (never (both _ _ e .1))
 opens-long letter (x ∷ y ∷ line) e = omega arith
 
--- the rest of a line, as the code takes it
-pub rest : (line : List ℕ) → take (length line - 2) (drop 2 line) ≡ drop 2 line
-rest line =
-    let size : length line - 2 ≡ length (drop 2 line) = sym (length-drop 2 line) in
-    rw size (take-length (drop 2 line))
+-- the rest of a list, as the code takes it
+pub rest : (n : ℕ) (l : List ℕ) → take (length l - n) (drop n l) ≡ drop n l
+rest n l =
+    let size : length l - n ≡ length (drop n l) = sym (length-drop n l) in
+    rw size (take-length (drop n l))
 
 module _ (d : Device) (line : List ℕ) where
   pub turn-alone : alone 80 line ≡ true → turn d line ≡ powered (d .image)

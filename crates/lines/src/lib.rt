@@ -1,21 +1,34 @@
-// The lines of rpmcrun: what each asks for, and its turn: what it does to the device, and what is printed.
+// The lines of rpmcrun: what each asks for, and its turn: what it does to the device, and what is printed; and how an input is split
+// into them.
 //
 // Contracts cite specs/. A line is taken without its newline. What is printed fills the front of the output, and the rest stays.
+mod gathering;
+
 ghost use mathlib.Core.Path.{_≡_};
-ghost use Prim.Native.Nat.{_+_, _≤_};
-ghost use lib.Dec.{ltb};
-ghost use lib.ListN.{length, set, replicate};
-ghost use Rattle.words.specs.Choice.{pick};
+ghost use Prim.Native.Nat.{_≤_, min};
+ghost use lib.ListN.{length, take, replicate};
 ghost use Rattle.hex.specs.Hex.{readable};
 ghost use Rattle.image.specs.Header.{count};
-ghost use Rattle.text.specs.Printing.{countLine, unknownLine, Prints};
+ghost use Rattle.text.specs.Printing.{countLine, unknownLine, printed, Prints};
 ghost use Rattle.device.specs.Calls.{device};
 ghost use Rattle.lines.specs.Turn.{powered, framed, worked, shown, read, opens, alone, turn, Gives, GivesTurn};
+ghost use Rattle.lines.specs.Feeding.{conversation, underWay, feed, ended, beforeNewline, upToNewline, keepingAll, GivesFed, GivesEnd};
 ghost use Rattle.lines.specs.Start.{firstImage};
+use gathering::at_most;
+use gathering::gather;
 use state::State;
 
 // What a turn leaves: how many bytes of the output are printed, and the state afterwards.
 pub struct Turned {
+    pub length: usize,
+    pub state: State,
+}
+
+// What hearing bytes comes to: how many were used, how many of the next line are kept, how many bytes of the output are printed,
+// and the state afterwards.
+pub struct Heard {
+    pub used: usize,
+    pub kept: usize,
     pub length: usize,
     pub state: State,
 }
@@ -159,7 +172,7 @@ fn alone(letter: u8, line: &[u8]) -> bool
 }
 
 // The turn of a line.
-pub fn turn(image: &mut [u8], s: State, line: &[u8], out: &mut [u8; 517]) -> Turned
+fn turn(image: &mut [u8], s: State, line: &[u8], out: &mut [u8; 517]) -> Turned
     ensures { λ r. ⌜ GivesTurn (turn (device (now (image .entry)) s) (now (line .entry))) r (now (out .entry)) (now (out .exit)) ⌝ }
     ensures { λ _. ⌜ now (image .exit) ≡ turn (device (now (image .entry)) s) (now (line .entry)) .after .image ⌝ }
 {
@@ -178,15 +191,76 @@ pub fn turn(image: &mut [u8], s: State, line: &[u8], out: &mut [u8; 517]) -> Tur
     unknown(s, out)
 }
 
-// Keeps one more byte of a line, if it is among the first 515: a line that long is never known, whatever follows
-// (proofs/TooLong.antt). Returns how many are kept.
-pub fn keep(line: &mut [u8; 515], kept: usize, byte: u8) -> usize
-    ensures { λ r. ⌜ r ≡ pick (ltb kept 515) (kept + 1) kept ⌝ }
-    ensures { λ _. ⌜ now (line .exit) ≡ pick (ltb kept 515) (set (now (line .entry)) kept byte) (now (line .entry)) ⌝ }
+// Answers the line that is kept, at the front of `line`.
+fn answered(image: &mut [u8], s: State, line: &[u8], kept: usize, out: &mut [u8; 517]) -> Turned
+    requires { ⌜ kept ≤ length (now line) ⌝ }
+    ensures { λ r. ⌜ GivesTurn (turn (device (now (image .entry)) s) (take kept (now (line .entry)))) r (now (out .entry)) (now (out .exit)) ⌝ }
+    ensures { λ _. ⌜ now (image .exit) ≡ turn (device (now (image .entry)) s) (take kept (now (line .entry))) .after .image ⌝ }
 {
-    if kept < 515 {
-        line[kept] = byte;
-        return kept + 1;
+    turn(image, s, &line[..kept], out)
+}
+
+// Feeds the bytes up to the first newline, with it, or all where there is none. The line under way is `kept` bytes of `line`, or all
+// of them where that is more. What is gathered of it stays there, also where it was answered.
+pub fn hear(
+    bytes: &[u8],
+    image: &mut [u8],
+    s: State,
+    line: &mut [u8; 515],
+    kept: usize,
+    out: &mut [u8; 517],
+) -> Heard
+    ensures { λ r. ⌜ GivesFed (feed (upToNewline (now (bytes .entry))) (underWay (now (image .entry)) s (now (line .entry)) kept)) r (now (out .entry)) (now (out .exit)) ⌝ }
+    ensures { λ r. ⌜ r .used ≡ length (upToNewline (now (bytes .entry))) ⌝ }
+    ensures { λ r. ⌜ now (image .exit) ≡ feed (upToNewline (now (bytes .entry))) (underWay (now (image .entry)) s (now (line .entry)) kept) .after .device .image ⌝ }
+    ensures { λ r. ⌜ now (line .exit) ≡ printed (keepingAll (take (min kept 515) (now (line .entry))) (beforeNewline (now (bytes .entry)))) (now (line .entry)) ⌝ }
+{
+    let gathered = gather(bytes, line, kept);
+    let before = gathered.before;
+    let n = at_most(gathered.kept);
+    if before < bytes.len() {
+        let turned = answered(image, s, line, n, out);
+        let state = turned.state;
+        return Heard {
+            used: before + 1,
+            kept: 0,
+            length: turned.length,
+            state,
+        };
     }
-    kept
+    Heard {
+        used: before,
+        kept: n,
+        length: 0,
+        state: s,
+    }
+}
+
+// The last line of an input that has ended, if there is one.
+fn last(image: &mut [u8], s: State, line: &[u8], kept: usize, out: &mut [u8; 517]) -> Turned
+    requires { ⌜ kept ≤ length (now line) ⌝ }
+    ensures { λ r. ⌜ GivesEnd (conversation (device (now (image .entry)) s) (take kept (now (line .entry)))) r (now (out .entry)) (now (out .exit)) ⌝ }
+    ensures { λ _. ⌜ now (image .exit) ≡ ended (conversation (device (now (image .entry)) s) (take kept (now (line .entry)))) .after .device .image ⌝ }
+{
+    if kept == 0 {
+        return Turned {
+            length: 0,
+            state: s,
+        };
+    }
+    answered(image, s, line, kept, out)
+}
+
+// At the end of the input a last line without newline is answered too. The line is `kept` bytes of `line`, and all where that is more.
+pub fn ended(
+    image: &mut [u8],
+    s: State,
+    line: &[u8; 515],
+    kept: usize,
+    out: &mut [u8; 517],
+) -> Turned
+    ensures { λ r. ⌜ GivesEnd (underWay (now (image .entry)) s (now (line .entry)) kept) r (now (out .entry)) (now (out .exit)) ⌝ }
+    ensures { λ _. ⌜ now (image .exit) ≡ ended (underWay (now (image .entry)) s (now (line .entry)) kept) .after .device .image ⌝ }
+{
+    last(image, s, line, at_most(kept), out)
 }

@@ -40,6 +40,10 @@ printed-digits bytes out n e h =
 pub printed-fits : {text out o : List ℕ} {n : ℕ} → Prints text n out o → n ≤ length o
 printed-fits {text} {out} p = rw (p .output, p .size, length-append text (drop (length text) out)) (omega arith)
 
+-- and at its front
+pub printed-front : {text out o : List ℕ} {n : ℕ} → Prints text n out o → take n o ≡ text
+printed-front {text} {out} {o} {n} p = rw (p .output) (take-at text (drop (length text) out) n (sym (p .size)))
+
 -- the line of a read that fits is printed
 pub read-line-fits : (number : ℕ) (bytes : List ℕ) → length bytes ≤ 256 → fittingReadLine number bytes ≡ readLine number bytes
 unfolding fittingReadLine pick

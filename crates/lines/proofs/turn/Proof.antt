@@ -36,7 +36,7 @@ returns-2 c =
     let no-power = sym (at-power .before .alone .ensures) ∙ at-power .if1 .left in
     let is-frame = sym (at-frame .before .opens .ensures) ∙ at-frame .if2 .taken in
     let e : turn d line ≡ framed d (readable 256 (take (length line - 2) (drop 2 line))) =
-    turn-frame d line no-power is-frame ∙ ap (λ (l : List ℕ). framed d (readable 256 l)) (sym (rest line)) in
+    turn-frame d line no-power is-frame ∙ ap (λ (l : List ℕ). framed d (readable 256 l)) (sym (rest 2 line)) in
     (rw e (c .framed .ensures), rw e (sym (framed-keeps d _)))
 
 sub-number-in : tie.Need-sub-number-in
@@ -59,7 +59,7 @@ returns-3 c =
     let no-frame = sym (at-frame .before .opens .ensures) ∙ at-frame .if2 .left in
     let is-work = sym (at-work .before .opens2 .ensures) ∙ at-work .if3 .taken in
     let e : turn d line ≡ worked d (number .result) =
-    turn-work d line no-power no-frame is-work ∙ ap (λ (n : ℕ). worked d n) (sym (number .ensures ∙ ap numberIn (rest line))) in
+    turn-work d line no-power no-frame is-work ∙ ap (λ (n : ℕ). worked d n) (sym (number .ensures ∙ ap numberIn (rest 2 line))) in
     (rw e (done .ensures .0), rw e (done .ensures .1))
 
 sub-number-in-2 : tie.Need-sub-number-in-2
@@ -83,7 +83,7 @@ returns-4 c =
     let no-work = sym (at-work .before .opens2 .ensures) ∙ at-work .if3 .left in
     let is-read = sym (at-read .before .opens3 .ensures) ∙ at-read .if4 .taken in
     let e : turn d line ≡ read d (number .result) =
-    turn-read d line no-power no-frame no-work is-read ∙ ap (λ (n : ℕ). read d n) (sym (number .ensures ∙ ap numberIn (rest line))) in
+    turn-read d line no-power no-frame no-work is-read ∙ ap (λ (n : ℕ). read d n) (sym (number .ensures ∙ ap numberIn (rest 2 line))) in
     (rw e (c .read .ensures), rw e (sym (read-keeps d _)))
 
 returns-5 : tie.Need-returns-5

@@ -8,14 +8,14 @@ use Rattle.rpmcrun.proofs.converse.Statement.{statement}
 use Rattle.rpmcrun.proofs.converse.Tie as tie
 
 abbrev Inv-loop : tie.InvT-loop
-Inv-loop image₀ out₀ chunk₀ line₀ heard₀ reads₀ image out chunk line heard reads =
-    (heard .kept ≤ 515) × (length chunk ≡ 65536) × (length image ≡ length image₀)
+Inv-loop image₀ out₀ chunk₀ line₀ talk₀ reads₀ image out chunk line talk reads =
+    (length chunk ≡ 65536) × (length image ≡ length image₀)
 
 abbrev μ-loop : tie.MeasureT-loop
-μ-loop image₀ out₀ chunk₀ line₀ heard₀ reads₀ image out chunk line heard reads = reads
+μ-loop image₀ out₀ chunk₀ line₀ talk₀ reads₀ image out chunk line talk reads = reads
 
 loop-holds : tie.Need-loop-holds Inv-loop μ-loop
-loop-holds c = (omega arith, sym (c .before .large-buffer .ensures), refl)
+loop-holds c = (sym (c .before .large-buffer .ensures), refl)
 
 pub converse-spec : {M : Type 1} → statement M
 converse-spec =
