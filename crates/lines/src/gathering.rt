@@ -28,7 +28,7 @@ fn keep(line: &mut [u8], kept: usize, byte: u8) -> usize
 }
 
 // Keeps the bytes before the first newline, or all where there is none.
-pub fn gather(bytes: &[u8], line: &mut [u8], kept: usize) -> Gathered
+pub(crate) fn gather(bytes: &[u8], line: &mut [u8], kept: usize) -> Gathered
     requires { ⌜ length (now line) ≡ 515 ⌝ }
     ensures { λ r. ⌜ r .before ≡ length (beforeNewline (now (bytes .entry))) ⌝ }
     ensures { λ r. ⌜ Prints (keepingAll (take (min kept 515) (now (line .entry))) (beforeNewline (now (bytes .entry)))) (min (r .kept) 515) (now (line .entry)) (now (line .exit)) ⌝ }
@@ -47,7 +47,7 @@ pub fn gather(bytes: &[u8], line: &mut [u8], kept: usize) -> Gathered
 }
 
 // As many bytes of a line as can be kept.
-pub fn at_most(kept: usize) -> usize
+pub(crate) fn at_most(kept: usize) -> usize
     ensures { λ r. ⌜ r ≡ min kept 515 ⌝ }
 {
     if 515 < kept {
