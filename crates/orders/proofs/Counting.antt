@@ -1,44 +1,37 @@
 -- The value of a set counter changes with the last step of an increment that passed all checks, and by 1: no other step of any job
 -- changes what is shown of it. Assumes nothing.
-use Prim.Native.Nat.{ℕ, suc, _+_, _-_, _%_, _^_, _≤_, _<_}
+use Prim.Native.Nat.{ℕ, suc, _+_, _-_, _%_, _^_, _<_}
 use mathlib.Core.Path.{_≡_, refl, ap, sym, subst, _∙_}
 use mathlib.Core.Logic.{_⊎_, inl, inr, ⊎-elim}
 use mathlib.Core.Bool.{Bool, true, false}
 use mathlib.Core.List.{List}
 use native.Mathlib.Omega.{arith}
-use borrow.Author.Tests.{eqb-true, eqb-false, ltb-true, ltb-false}
+use borrow.Author.Tests.{eqb-true}
 use lib.Dec.{eqb, ltb}
-use lib.ListN.{getD}
 use Rattle.words.specs.Choice.{pick}
-use Rattle.words.specs.Words.{Bytes, wordOr0}
 use Rattle.image.specs.Header.{count}
 use Rattle.image.specs.Slot.{slotOf, isSet}
-use Rattle.image.specs.Refusal.{refusal}
 use Rattle.frames.specs.Layout.{typeOf, counterOf}
 use Rattle.jobs.specs.Jobs.{commandOf, commandType, hashSteps}
 use Rattle.jobs.specs.declared.Command.the-variants.{IncrementCounter}
 use Rattle.jobs.specs.declared.Kind.{Kind}
 use Rattle.jobs.specs.declared.Kind.the-variants.{RootKeyAndCounter, RootKey, SessionKey, Increment, Request, TemporaryKeyAndCounter, TemporaryKey}
 use Rattle.state.specs.declared.Key.{Key}
-use Rattle.state.specs.Parts.{noKey, powerOn}
-use Rattle.state.proofs.Running.{no-job-idle}
 use Rattle.rules.specs.Whole.{Outcome, frameKept, kindIn, valueIn, Verifies, lastStatus, allChecks, keptAfter, carriedOut, failedWith, whole}
 use Rattle.rules.proofs.TenChecks.{all-pass}
 use Rattle.rules.proofs.Taken.{below-count, type-named, facts}
-use Rattle.rules.proofs.Passed.{signature-verified, data-was-the-value, not-at-its-end}
+use Rattle.rules.proofs.Passed.{signature-verified, not-at-its-end}
 use Rattle.jobs.proofs.Types.{type-kept}
 use Rattle.progress.specs.Steps.{stepsOf}
-use Rattle.progress.proofs.Runs.{run-idle}
 use Rattle.device.specs.Work.{Device, run}
-use Rattle.device.specs.Calls.{device, outcome, poweredUp, Call, PowerUp, Frame, Work, called}
+use Rattle.device.specs.Calls.{outcome, Call, called}
 use Rattle.counters.specs.Compared.{Counter, counterIn}
 use Rattle.counters.proofs.Cuts.{cutAt}
-use Rattle.counters.proofs.Counters.{readBack}
+use Rattle.counters.proofs.Counters.{readBack, counterAfter}
 use Rattle.counters.proofs.WholeOwn.{own-after}
 use Rattle.counters.proofs.Growing.{Starts, NoIncrement, value-on, value-out, next-value}
-use Rattle.orders.specs.Growing.{Counts}
-use Rattle.orders.specs.Ledger.{Pending, None, Doing, Ledger}
-use Rattle.orders.proofs.Sound.{Working, AsPending, Sound}
+use Rattle.orders.specs.Ledger.{Ledger}
+use Rattle.orders.proofs.Sound.{Working, Sound}
 use Rattle.orders.proofs.Interrupted.{header-found, own-cut}
 use Rattle.orders.proofs.Calls.{works-on}
 use Rattle.orders.proofs.Monotonic.{call-grows}
@@ -97,14 +90,16 @@ module _ (frame : List ℕ) (done : ℕ) (o : Outcome) (d : Device) (w : Working
     same-failed : eqb (allChecks found frame) 0 ≡ false → Same
     unfolding whole failedWith pick
     same-failed e =
-        rw (after-image, e) (sym (before ∙ ap (λ (j : ℕ). cutAt kind j p .value) (nothing-made frame done o d w left m e) ∙ ap (λ (q : Counter). q .value) (none-cut kind p)))
+        rw (after-image, e)
+        (sym
+        (before ∙ ap (λ (j : ℕ). cutAt kind j p .value) (nothing-made frame done o d w left m e) ∙ ap (λ (q : Counter). q .value) (none-cut kind p)))
 
     carried-image : allChecks found frame ≡ 0 → run m d .image ≡ carriedOut kind found frame .image
     unfolding whole pick
     carried-image e = rw (after-image, e)
 
     -- or if none did
-    after-value : allChecks found frame ≡ 0 → counterIn (run m d .image) c ≡ Rattle.counters.proofs.Counters.counterAfter kind (frameKept frame) kept p
+    after-value : allChecks found frame ≡ 0 → counterIn (run m d .image) c ≡ counterAfter kind (frameKept frame) kept p
     unfolding carriedOut
     after-value e =
         ap (λ (i : List ℕ). counterIn i c) (carried-image e)

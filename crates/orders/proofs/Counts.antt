@@ -1,10 +1,9 @@
 -- Which call changes the value of a set counter, along any order of calls: work with the last step of an increment of it, whose signature
 -- verified and whose data was the value; and it changes by 1. Assumes nothing.
-use Prim.Native.Nat.{ℕ, suc, _+_, _^_, _≤_, _<_}
-use mathlib.Core.Path.{_≡_, refl, ap, sym, subst, _∙_}
+use Prim.Native.Nat.{ℕ, suc, _+_, _^_, _<_}
+use mathlib.Core.Path.{_≡_, refl, ap, sym, _∙_}
 use mathlib.Core.Bool.{Bool, true, false}
 use mathlib.Core.List.{List}
-use native.Mathlib.Omega.{arith}
 use borrow.Author.Tests.{eqb-true, eqb-false, ltb-false}
 use lib.Dec.{eqb}
 use Rattle.words.specs.Words.{Bytes}
@@ -17,9 +16,9 @@ use Rattle.state.proofs.Running.{no-job-idle}
 use Rattle.rules.proofs.Passed.{data-was-the-value}
 use Rattle.progress.specs.Steps.{stepsOf}
 use Rattle.progress.proofs.Runs.{run-idle}
-use Rattle.device.specs.Work.{Device, run}
+use Rattle.device.specs.Work.{Device}
 use Rattle.device.specs.Calls.{device, outcome, poweredUp, Call, PowerUp, Frame, Work, called}
-use Rattle.counters.specs.Compared.{Counter, counterIn}
+use Rattle.counters.specs.Compared.{counterIn}
 use Rattle.orders.specs.Orders.{allCalled}
 use Rattle.orders.specs.Ledger.{Pending, None, Doing, Ledger, ledger, opened}
 use Rattle.orders.specs.Growing.{Counts}
@@ -90,7 +89,9 @@ module _
       (ap (λ (i : List ℕ). counterIn i c .value) (work-image l d sound quota)
       ∙ other-counter l d sound c inside word set frame done quota w left (eqb-false c (counterOf frame) own) _ refl))
 
-  work-by : (p : Pending) → l .pending ≡ p → AsPending p (l .asIf) d → (quota : ℕ) → Changed (Work quota) → Counts l (Work quota) (d .image) (called (Work quota) d .image) c
+  work-by :
+      (p : Pending) → l .pending ≡ p → AsPending p (l .asIf) d → (quota : ℕ) → Changed (Work quota) →
+      Counts l (Work quota) (d .image) (called (Work quota) d .image) c
   work-by None e r quota changed =
       absurd
       (changed

@@ -1,25 +1,24 @@
 -- It is a monotonic counter: along any order of calls a set counter stays set and its value never falls, a set root stays set and its
 -- key never changes. Work alone changes an image, and a job's stores let its counter grow, from any of them to any later one, and to the
 -- end. Assumes nothing.
-use Prim.Native.Nat.{ℕ, _+_, _-_, _^_, _≤_, _<_}
-use mathlib.Core.Path.{_≡_, refl, ap, sym, subst, _∙_}
+use Prim.Native.Nat.{ℕ, _+_, _-_, _≤_, _<_}
+use mathlib.Core.Path.{_≡_, refl, ap, sym, _∙_}
 use mathlib.Core.Bool.{Bool, true, false}
-use mathlib.Core.List.{List, [], _∷_}
+use mathlib.Core.List.{List}
 use native.Mathlib.Omega.{arith}
 use borrow.Author.Tests.{eqb-true, eqb-false}
 use lib.Dec.{eqb, ltb}
 use Rattle.words.specs.Choice.{pick}
 use Rattle.words.proofs.Choice.{either, otherwise}
 use Rattle.image.specs.Header.{count}
-use Rattle.image.specs.Slot.{slotOf, isSet}
-use Rattle.image.proofs.Laid.{SameHeader}
+use Rattle.image.specs.Slot.{slotOf}
 use Rattle.frames.specs.Layout.{counterOf}
 use Rattle.jobs.specs.Jobs.{commandOf, signatureSteps, hashSteps}
 use Rattle.jobs.specs.declared.Command.{Command}
 use Rattle.jobs.specs.declared.Command.the-variants.{WriteRootKey, UpdateSessionKey, IncrementCounter, RequestCounter}
 use Rattle.jobs.specs.declared.Kind.{Kind}
 use Rattle.jobs.specs.declared.Kind.the-variants.{RootKeyAndCounter, RootKey, SessionKey, Increment, Request, TemporaryKeyAndCounter, TemporaryKey}
-use Rattle.rules.specs.Whole.{Outcome, frameKept, kindIn, valueIn, statusOnArrival, lastStatus, allChecks, keptAfter, carriedOut, failedWith, whole}
+use Rattle.rules.specs.Whole.{Outcome, frameKept, kindIn, valueIn, lastStatus, allChecks, keptAfter, carriedOut, failedWith, whole}
 use Rattle.rules.proofs.TenChecks.{all-checks, all-pass}
 use Rattle.rules.proofs.Taken.{Facts, below-count, facts}
 use Rattle.rules.proofs.Passed.{not-at-its-end}
@@ -114,8 +113,9 @@ module _ (frame : List ℕ) (done : ℕ) (o : Outcome) (d : Device) (w : Working
   carried : allChecks found frame ≡ 0 → GrowsTo (cutAt kind sofar p) (counterIn (carriedOut kind found frame .image) c)
   unfolding carriedOut
   carried passed =
-      rw (own-after kind (frameKept frame) (keptAfter (commandOf kind) 0 (valueIn found frame)) (found .image) c (w .formed .laid) (below-count found frame (w .passed)))
-      (grows-out kind (frameKept frame) (keptAfter (commandOf kind) 0 (valueIn found frame)) p starts
+      let kept = keptAfter (commandOf kind) 0 (valueIn found frame) in
+      rw (own-after kind (frameKept frame) kept (found .image) c (w .formed .laid) (below-count found frame (w .passed)))
+      (grows-out kind (frameKept frame) kept p starts
       (stores-of found frame kind (facts found frame (w .passed)) (all-pass found frame passed .1)) sofar)
 
   -- or a check failed, and none was

@@ -1,12 +1,10 @@
 -- Along any order of calls counters grow, and the value of a set one changes by 1 alone, with the last step of an increment. Assumes
 -- nothing.
-use Prim.Native.Nat.{ℕ, suc, _+_, _-_, _^_, _≤_, _<_}
+use Prim.Native.Nat.{ℕ, _+_, _-_, _^_, _≤_, _<_}
 use mathlib.Core.Path.{_≡_, refl, ap, sym, subst, _∙_}
-use mathlib.Core.Bool.{Bool, true, false}
+use mathlib.Core.Bool.{true}
 use mathlib.Core.List.{List, [], _∷_}
 use native.Mathlib.Omega.{arith}
-use lib.Dec.{ltb}
-use lib.ListN.{getD}
 use Rattle.words.specs.Choice.{pick}
 use Rattle.words.specs.Words.{Bytes}
 use Rattle.words.proofs.Back.{word-small}
@@ -23,7 +21,7 @@ use Rattle.device.specs.Calls.{device, poweredUp, After, Call, PowerUp, Frame, 
 use Rattle.progress.proofs.Runs.{run-idle}
 use Rattle.progress.proofs.Ends.{work-runs}
 use Rattle.progress.proofs.Kept.{run-header}
-use Rattle.counters.specs.Compared.{Counter, counterIn}
+use Rattle.counters.specs.Compared.{counterIn}
 use Rattle.counters.proofs.Growing.{GrowsTo, grows-self, grows-then}
 use Rattle.orders.specs.Orders.{allCalled}
 use Rattle.orders.specs.Ledger.{Pending, None, Doing, Ledger, entered, ledger, opened}

@@ -1,7 +1,7 @@
 -- What is never touched stays as it was, byte for byte: a work call alone changes the image, and only bytes in use of the slot of the
 -- frame under way, which has passed check 5 and was taken. Assumes nothing.
 use Prim.Native.Nat.{ℕ, _+_, _<_}
-use mathlib.Core.Path.{_≡_, refl, ap, sym, subst, _∙_}
+use mathlib.Core.Path.{_≡_, refl, ap, sym, _∙_}
 use mathlib.Core.Logic.{_⊎_, inl, inr, ⊎-elim}
 use mathlib.Core.Bool.{Bool, true, false}
 use mathlib.Core.List.{List, [], _∷_, _++_}
@@ -30,7 +30,7 @@ use Rattle.progress.specs.Steps.{stepsOf}
 use Rattle.progress.proofs.Runs.{run-idle}
 use Rattle.progress.proofs.Kept.{run-kept}
 use Rattle.device.specs.Work.{Device, run}
-use Rattle.device.specs.Calls.{device, outcome, poweredUp, Call, PowerUp, Frame, Work, called}
+use Rattle.device.specs.Calls.{device, outcome, Call, PowerUp, Frame, Work, called}
 use Rattle.counters.specs.Compared.{Counter, counterIn}
 use Rattle.counters.specs.Reordering.{belongs, ownFrames}
 use Rattle.counters.proofs.WholeOwn.{others-kept}
@@ -119,7 +119,9 @@ module _ (c : ℕ) where
   bad-by : (i j : List ℕ) → counterIn i c ≡ counterIn j c → BadIn j → BadIn i
   bad-by i j same bad = bad-same i j c same ∙ bad
 
-  whole-bad-by : (o : Outcome) (frame : List ℕ) → Laid (o .image) → c < count (o .image) → Bad o → (own : Bool) → eqb c (counterOf frame) ≡ own → Bad (whole o frame)
+  whole-bad-by :
+      (o : Outcome) (frame : List ℕ) → Laid (o .image) → c < count (o .image) → Bad o → (own : Bool) → eqb c (counterOf frame) ≡ own →
+      Bad (whole o frame)
   unfolding failedWith
   whole-bad-by o frame laid inside bad true own =
       one-end Bad o frame (λ passed. absurd (never (sym (sound-slot o frame passed) ∙ rw (← eqb-true c (counterOf frame) own) bad))) (λ status. bad)
@@ -190,7 +192,9 @@ module _ (d : Device) (accepted : deviceRefusal (d .image) (d .state) ≡ 0) (i 
   unfolding belongs pick
   own-frame frame done o w = rw (lt-ltb 2 (length frame) (long-enough (outcome (w .found)) frame (w .passed)), eq-eqb (counterOf frame) (counterOf frame) refl)
 
-  work-kept : (p : Pending) (o : Outcome) → AsPending p o d → (frames : List (List ℕ)) → Free p o (d .image) frames i → getD (run quota d .image) i 0 ≡ getD (d .image) i 0
+  work-kept :
+      (p : Pending) (o : Outcome) → AsPending p o d → (frames : List (List ℕ)) → Free p o (d .image) frames i →
+      getD (run quota d .image) i 0 ≡ getD (d .image) i 0
   work-kept None o r frames free = ap (λ (x : Device). getD (x .image) i 0) (run-idle quota d (no-job-idle (d .state) (r .none)))
   work-kept (Doing frame done) o (w, _) frames free =
       let inside = below-now frame done o d w in
@@ -198,7 +202,9 @@ module _ (d : Device) (accepted : deviceRefusal (d .image) (d .state) ≡ 0) (i 
       (⊎-elim (λ bad. absurd (not-for-bad (counterOf frame) frame done o d w inside bad refl))
       (λ other. absurd (never (sym (other .0) ∙ own-frame frame done o w)))) (free (counterOf frame) inside)
 
-module _ (l : Ledger) (d : Device) (sound : Sound l d) (i : ℕ) (call : Call) (frames : List (List ℕ)) (free : Free (l .pending) (l .asIf) (d .image) (frameTaken call l ++ frames) i) where
+module _
+    (l : Ledger) (d : Device) (sound : Sound l d) (i : ℕ) (call : Call) (frames : List (List ℕ))
+    (free : Free (l .pending) (l .asIf) (d .image) (frameTaken call l ++ frames) i) where
   byte-kept : getD (called call d .image) i 0 ≡ getD (d .image) i 0
   byte-kept = by call free
     where

@@ -10,7 +10,6 @@ use Rattle.jobs.specs.declared.Command.the-variants.{IncrementCounter}
 use Rattle.frames.specs.Layout.{typeOf, counterOf}
 use Rattle.rules.specs.Whole.{frameKept, Verifies}
 use Rattle.progress.specs.Steps.{stepsOf}
-use Rattle.device.specs.Work.{Device}
 use Rattle.device.specs.Calls.{Call, Work}
 use Rattle.orders.specs.Ledger.{Ledger, Doing}
 

@@ -2,7 +2,6 @@
 use Prim.Native.Nat.{ℕ}
 use mathlib.Core.Path.{_≡_, sym, _∙_}
 use mathlib.Core.List.{List}
-use denote.Ref.{now}
 use Rattle.host.specs.Reading.{GoodReply}
 use Rattle.rpmc_host.proofs.Verdicts.{zero-is-good, good-is-zero}
 use Rattle.promises.specs.Functions.{ReplyRead}

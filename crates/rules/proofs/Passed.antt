@@ -2,10 +2,9 @@
 -- Assumes nothing.
 use Prim.Native.Nat.{ℕ}
 use mathlib.Core.Path.{_≡_, refl}
-use mathlib.Core.Bool.{Bool, true, false}
+use mathlib.Core.Bool.{false}
 use mathlib.Core.List.{List}
 use borrow.Author.Tests.{eqb-true, eqb-false, not-false}
-use lib.Dec.{eqb}
 use Rattle.words.specs.Choice.{pick}
 use Rattle.words.specs.Rows.{Row}
 use Rattle.words.specs.Words.{wordOr0}

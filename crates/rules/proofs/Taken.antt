@@ -1,6 +1,6 @@
 -- What a frame that no check fails has met, and the two ends that a frame comes to. Assumes nothing.
-use Prim.Native.Nat.{ℕ, suc, _≤_, _<_}
-use mathlib.Core.Path.{_≡_, refl, sym, _∙_}
+use Prim.Native.Nat.{ℕ, _≤_, _<_}
+use mathlib.Core.Path.{_≡_, refl, sym}
 use mathlib.Core.Bool.{Bool, true, false, not}
 use mathlib.Core.List.{List}
 use native.Mathlib.Omega.{arith}
@@ -19,7 +19,7 @@ use Rattle.frames.proofs.Layouts.{long-frames}
 use Rattle.jobs.specs.Jobs.{rootKind, kindOf}
 use Rattle.jobs.specs.declared.Kind.{Kind}
 use Rattle.jobs.specs.declared.Kind.the-variants.{RootKeyAndCounter, RootKey, SessionKey, Increment, Request, TemporaryKeyAndCounter, TemporaryKey}
-use Rattle.checks.specs.Checks.{wrongState, notReady, checksOf, arrivalStatus}
+use Rattle.checks.specs.Checks.{checksOf, arrivalStatus}
 use Rattle.rules.specs.Whole.{Outcome, frameKept, isTemporary, kindIn, keyIn, statusOnArrival, allChecks, failedWith, carriedOut, whole}
 use Rattle.rules.proofs.TenChecks.{all-pass}
 
