@@ -1,16 +1,15 @@
 -- Feeding bytes one at a time answers the lines of the input in order, each as it stands there and not as it is kept; and it does
 -- not matter in which parts the bytes come. Assumes nothing.
 use Prim.Native.Nat.{ℕ, _+_, _≤_, _<_}
-use mathlib.Core.Path.{_≡_, refl, sym, ap, _∙_}
+use mathlib.Core.Path.{_≡_, refl, sym, ap}
 use mathlib.Core.Bool.{Bool, true, false}
 use mathlib.Core.List.{List, [], _∷_, _++_, append-assoc, append-nil}
 use native.Mathlib.Omega.{arith}
 use borrow.Author.Tests.{eqb-true, ne-eqb, ltb-true, ltb-false}
 use lib.Dec.{ltb, eqb}
-use lib.ListN.{length, take, drop, length-append, take-append-drop}
+use lib.ListN.{length, take, length-append}
 use lib.Seq.{append-snoc, take-all, take-append-le, length-take-le}
 use Rattle.words.specs.Choice.{pick}
-use Rattle.words.proofs.Choice.{either}
 use Rattle.device.specs.Work.{Device}
 use Rattle.text.specs.Printing.{newline}
 use Rattle.lines.specs.Turn.{turn}

@@ -7,11 +7,11 @@ use mathlib.Core.List.{List, [], _∷_, _++_}
 use native.Mathlib.Numerals.{add-one}
 use native.Mathlib.Omega.{arith}
 use borrow.Author.Tests.{eq-eqb, ne-eqb, le-ltb, ltb-true, ltb-false}
-use lib.Dec.{ltb, eqb}
+use lib.Dec.{ltb}
 use lib.ListN.{length, getD, take, drop, set, length-set, take-append-drop, drop-of-length-le}
 use lib.Seq.{take-all, length-take-le, take-suc-set, drop-set-lt, drop-drop, drop-cons}
 use Rattle.words.specs.Choice.{pick}
-use Rattle.text.specs.Printing.{newline, printed, Prints}
+use Rattle.text.specs.Printing.{newline, Prints}
 use Rattle.lines.specs.Feeding.{keeping, beforeNewline, keepingAll}
 use Rattle.lines.proofs.Newline.{before-newline, before-other}
 

@@ -1,7 +1,7 @@
 -- What a C program may rely on, by the contracts of the reader's two entries alone: 0 is returned exactly for a good reply, and the part
 -- is then the four counter bytes where they stand, else empty. Assumes nothing.
 use mathlib.Core.Path.{_≡_, ap, sym, _∙_}
-use mathlib.Core.List.{List, []}
+use mathlib.Core.List.{[]}
 use lib.ListN.{take, drop}
 use denote.Ref.{ptr, now}
 use Rattle.host.specs.Reading.{GoodReply, further}

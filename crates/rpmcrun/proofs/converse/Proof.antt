@@ -1,7 +1,5 @@
 -- `converse` is safe and ends: the reads are counted down. Assumes nothing.
 use borrow.Author.Needs.{needs}
-use Prim.Native.Nat.{_≤_}
-use native.Mathlib.Omega.{arith}
 use mathlib.Core.Path.{_≡_, refl, sym}
 use lib.ListN.{length}
 use Rattle.rpmcrun.proofs.converse.Statement.{statement}
