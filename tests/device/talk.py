@@ -71,10 +71,12 @@ def expect_same(programs, lines, first, second):
 
 def try_cases(programs, cases):
     """Cases are lines with the answers that document 01 wants."""
+    if not cases:
+        raise Failed("there was no such request")
     lines = [line for line, _ in cases]
     given = [program.ask_lines(lines) for program in programs]
     for program, answers in zip(programs, given):
-        for (line, wanted), answer in zip(cases, answers):
+        for (line, wanted), answer in zip(cases, answers, strict=True):
             expect(program.name, line, answer, wanted)
     expect_same(programs, lines, *given)
     return f"{len(cases)} requests"
@@ -150,5 +152,7 @@ def try_histories(programs, histories):
     """Histories are names with functions that begin them: each program is taken through all of
     them, and then their answers are compared."""
     (lines, first), (_, second) = [follow(program, histories) for program in programs]
+    if not lines:
+        raise Failed("there was no such request")
     expect_same(programs, lines, first, second)
     return f"{len(histories)} histories, {len(lines)} requests"

@@ -65,6 +65,8 @@ def compare(crate, section, each_function):
 def paths():
     """Each path to an edit that a page gives is there."""
     found = {(page, path) for page in PAGES for path in PATH.findall(page.read_text())}
+    if not found:
+        raise Failed("no page gives one")
     for page, (crate, folder, label) in sorted(found):
         if not (ROOT / "crates" / crate / folder / f"{label}.edit").is_file():
             raise Failed(f"{page.relative_to(ROOT)}: there is no crates/{crate}/{folder}/{label}.edit")

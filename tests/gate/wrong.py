@@ -1,13 +1,18 @@
 #!/usr/bin/env python3
 """Shows that the tests of rpmcrun and of the device fail on wrong programs: builds the wrong versions of
 the second program (wrong_versions.py) below target/wrong, and hands each to the test script that has to
-catch it, as rpmcrun, or as the device beside the right one. A version that it lets pass is a failure.
+catch it, as rpmcrun, or as the device beside the right one.
+
+First the right version goes through each of these scripts, in the same way, and has to pass. A wrong version
+is caught where its script fails first in the check that it names, and says of two things compared that they
+differ. A version that passes, that fails in another check, or that ends or cannot be run is not caught.
 
 tests/gate/wrong.py [WORD]..: only the versions in whose names one of the words stands. It is not part of
-tests/run, and needs what tests/run has built; it takes some minutes.
+tests/run, and needs the second program that tests/run has built; it takes some minutes.
 """
 
 import pathlib
+import re
 import shutil
 import subprocess
 import sys
@@ -43,34 +48,63 @@ def build(edit):
     return folder / "second"
 
 
-def first_failure(script, program):
-    """The first line of a test script that says FAIL, or nothing. The script is ended then."""
+def command_of(script, program):
+    """The words that run a test script on a second program."""
     command = [ROOT / "tests" / script]
     if script == HISTORIES:
-        command += ["--program", f"{program} rpmcrun", "--second", SECOND]
-    elif script == DEVICE:
-        command += ["--shim", f"{SECOND} device", "--second", program]
-    else:
-        command += [program, "rpmcrun"]
+        return command + ["--program", f"{program} rpmcrun", "--second", SECOND]
+    if script == DEVICE:
+        return command + ["--shim", f"{SECOND} device", "--second", program]
+    return command + [program, "rpmcrun"]
+
+
+def passes(script, tests):
+    """The right version passes, and each of these tests is made."""
+    done = subprocess.run(command_of(script, SECOND), stdout=subprocess.PIPE, stderr=subprocess.DEVNULL, text=True)
+    lines = done.stdout.splitlines()
+    failures = [line for line in lines if line.startswith("FAIL ")]
+    if failures or done.returncode != 0 or not re.fullmatch("[1-9][0-9]* passed, 0 failed", (lines or [""])[-1]):
+        raise Failed(f"it ended with status {done.returncode}: {(failures or lines or ['it says nothing'])[-1]}")
+    missing = [test for test in tests if not any(f"{line} (".startswith(f"ok {test} (") for line in lines)]
+    if missing:
+        raise Failed(f"it does not make: {'; '.join(missing)}")
+    return f"{lines[-1]}, {len(tests)} of them for wrong versions"
+
+
+def first_failure(script, program):
+    """The first line of a test script that says FAIL, or nothing. The script is ended then."""
+    command = command_of(script, program)
     with subprocess.Popen(command, stdout=subprocess.PIPE, stderr=subprocess.DEVNULL, text=True) as running:
         line = next((line for line in running.stdout if line.startswith("FAIL ")), "")
         running.kill()
-    return line.strip()
+    return line.rstrip("\n")
 
 
-def catch(edit):
-    line = first_failure(edit.caught_by, build(edit))
+def catch(edit, good_scripts):
+    check = edit.caught_by
+    if check.script not in good_scripts:
+        raise Failed(f"{check.script} does not pass the right version")
+    line = first_failure(check.script, build(edit))
     if not line:
-        raise Failed(f"{edit.caught_by} did not catch it")
-    return f"{edit.caught_by}: {line[:LONGEST_NOTE]}"
+        raise Failed(f"{check.script} did not catch it")
+    if not re.match(f"FAIL {re.escape(check.test)}: {check.says}", line):
+        raise Failed(f"not by a difference in `{check.test}`: {line[:LONGEST_NOTE]}")
+    return f"{check.script}: {line[:LONGEST_NOTE]}"
 
 
 def main():
     words = sys.argv[1:]
     chosen = [edit for edit in VERSIONS if not words or any(word in edit.name for word in words)]
-    tally = Tally()
+    scripts = {}
     for edit in chosen:
-        tally.test(f"caught: {edit.name}", lambda: catch(edit))
+        scripts.setdefault(edit.caught_by.script, set()).add(edit.caught_by.test)
+    tally, good_scripts = Tally(), set()
+    for script, tests in scripts.items():
+        failed = tally.failed
+        tally.test(f"the right version passes {script}", lambda: passes(script, sorted(tests)))
+        good_scripts |= {script} if tally.failed == failed else set()
+    for edit in chosen:
+        tally.test(f"caught: {edit.name}", lambda: catch(edit, good_scripts))
     return tally.end()
 
 

@@ -39,6 +39,8 @@ def pairs_of(seed, lines):
 def tell(command, writes):
     """Takes the program through writes. With each stand the answers that it has to be followed by,
     without waiting for the next; where there are none, nothing may come."""
+    if not any(answers for _, answers in writes):
+        raise Failed("there was no line")
     with Conversation(command) as talk:
         expect("first line", talk.hear(), FIRST_LINE)
         for number, (data, answers) in enumerate(writes):

@@ -120,7 +120,9 @@ def calls_in_talk(command):
                 talk.hear()
             read, wrote = [after - earlier for after, earlier in zip(calls.counted(talk.process), before)]
             told.append(f"{len(line) + 1} bytes: {read / TALKS:g} and {wrote / TALKS:g}")
-            # the kernel counts a call when it is over, so the last before these may be among them
+            # the kernel counts a call when it is over: the last before these may be among them, their own last not
+            if wrote < TALKS - 1 or read < TALKS - 1:
+                raise Failed(f"the kernel counts {read} reads and {wrote} writes for {TALKS} lines that were answered")
             if wrote > TALKS + 1 or read > TALKS * (1 + len(line) // LEAST_BUFFER) + 1:
                 raise Failed(f"{TALKS} lines of {len(line) + 1} bytes take {read} reads and {wrote} writes")
         talk.end()

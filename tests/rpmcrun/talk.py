@@ -119,6 +119,8 @@ def shown(line):
 
 def converse(command, pairs):
     """Takes the program through lines with the answers wanted, each before the next is told."""
+    if not pairs:
+        raise Failed("there was no line")
     with Conversation(command) as talk:
         expect("first line", talk.hear(), FIRST_LINE)
         for line, wanted in pairs:

@@ -8,6 +8,8 @@ MOST_SHOWN = 40  # names with their counts in a report; of a longer list the rar
 
 
 def cover(wanted, reached):
+    if not wanted:
+        raise Failed("nothing has to be reached")
     missing = sorted(set(wanted) - set(reached))
     if missing:
         raise Failed(f"not reached: {missing}")
@@ -27,6 +29,8 @@ class Coverage:
     def cover(self, title):
         """Tells how often each was reached; fails if one never was."""
         wanted, counts = self.wanted[title], self.counts[title]
+        if not wanted:
+            raise Failed("nothing has to be reached")
         missing = [name for name in wanted if counts[name] == 0]
         if missing:
             raise Failed(f"never reached: {'; '.join(missing)}")

@@ -90,7 +90,9 @@ class Platform:
 
 
 def expect(name, lines, given, wanted):
-    """Fails at the first answer that is not the one wanted."""
+    """Fails at the first answer that is not the one wanted, and where there is none or one too many."""
+    if not len(lines) == len(given) == len(wanted) > 0:
+        raise Failed(f"{name} gives {len(given)} answers to {len(lines)} lines, where {len(wanted)} are wanted")
     wrong = [i for i in range(len(lines)) if given[i] != wanted[i]]
     if wrong:
         at = wrong[0]
