@@ -47,7 +47,8 @@ def check(found):
         for name, answers in given.items():
             if answers.count("\n") != text.count("\n") + 1:
                 sys.exit(f"bench: {name} does not answer each line of {sort.title}")
-    print(f"check  {len(found)} programs agree on {len(SORTS)} sorts of lines", flush=True)
+    said = f"{len(found)} programs agree" if len(found) > 1 else f"{', '.join(found)} alone answers each line, compared with none,"
+    print(f"check  {said} on {len(SORTS)} sorts of lines", flush=True)
 
 
 def whole(command, sort, lines):

@@ -1,5 +1,4 @@
--- The promises, all of them in one place. What stands in quotes is document 01's. Their proofs are in the files that each names. Assumes
--- nothing.
+-- The promises, all of them in one place. What stands in quotes is document 01's. Assumes nothing.
 use Prim.Native.Nat.{ℕ, suc, _+_, _≤_, _<_, min}
 use mathlib.Core.Path.{_≡_}
 use mathlib.Core.Bool.{Bool, true, false}
@@ -15,7 +14,8 @@ use Rattle.image.specs.Header.{count}
 use Rattle.image.specs.Refusal.{refusal}
 use Rattle.frames.specs.declared.Class.the-variants.{Read, CommandFrame}
 use Rattle.frames.specs.declared.Reply.{Reply}
-use Rattle.frames.specs.Classes.{classOf}
+use Rattle.frames.specs.Classes.{FrameOf}
+use Rattle.frames.proofs.Classes.{class-by-numbers}
 use Rattle.frames.specs.Reading.{readOutput}
 use Rattle.frames.proofs.Reading as Reading
 use Rattle.jobs.specs.Jobs.{longest}
@@ -80,12 +80,11 @@ module _ (image : List ℕ) (accepted : refusal image ≡ 0) (calls : List Call)
   pub in-step : InStep l d
   in-step = Along.in-step image accepted calls
 
-  -- So a read at any moment shows what the ledger says: its status and its reply, or, while a frame is under way, 01h throughout
-  -- (`busy-read`).
+  -- So a read at any moment shows the ledger's status and reply, or, while a frame is under way, 01h throughout (`busy-read`).
   pub reads :
-      (bytes output : List ℕ) → classOf bytes ≡ Read →
+      (bytes output : List ℕ) → FrameOf Read bytes →
       after (Frame bytes output) d .output ≡ readOutput (isDoing (l .pending)) (l .asIf .status) (l .asIf .reply) (length output)
-  reads = Along.reads image accepted calls
+  reads bytes output frame = Along.reads image accepted calls bytes output (class-by-numbers Read bytes frame)
 
   -- Demand 3: frames on different counters commute. Of a device that is idle, for any schedule: two orders of calls without a reset or a power
   -- cut, with any quotas of steps, reads and frames that are ignored, both of which leave it idle, and in which the frames taken for a
@@ -110,8 +109,7 @@ module _ (image : List ℕ) (accepted : refusal image ≡ 0) (calls : List Call)
       (slotOf (called call d .image) c .value ≡ slotOf (d .image) c .value → ⊥) → Counts l call (d .image) (called call d .image) c
   counts-by-one bytes = Counts.counts-by-one image accepted bytes calls
 
-  -- What is never touched: a byte of header, gap or tail, one of bytes 12 to 15 of a slot, of a bad slot, or of the slot of a counter that
-  -- no frame taken is for. And the image keeps its length.
+  -- What is never touched: header, gap, tail, bytes 12 to 15 of a slot, bad slots, and all other slots. The image keeps its length.
   pub never-touched : (i : ℕ) → Untouched image calls i → getD (d .image) i 0 ≡ getD image i 0
   never-touched = Touched.never-touched image accepted calls
 
@@ -134,10 +132,11 @@ module _ (image : List ℕ) (accepted : refusal image ≡ 0) (calls : List Call)
   -- A command frame that finds the device idle takes exactly the steps of its kind, fewer if a check fails, none if it fails on arrival;
   -- a work call does its quota of them, or those that are left.
   pub steps-by-kind :
-      isBusy d ≡ false → (frame output : List ℕ) → classOf frame ≡ CommandFrame → (n : ℕ) →
+      isBusy d ≡ false → (frame output : List ℕ) → FrameOf CommandFrame frame → (n : ℕ) →
       (isBusy (called (Work n) (called (Frame frame output) d)) ≡ ltb n (stepsOf (outcome d) frame))
       × (after (Work n) (called (Frame frame output) d) .steps ≡ min n (stepsOf (outcome d) frame))
-  steps-by-kind = ItEnds.steps-by-kind image accepted calls
+  steps-by-kind idle frame output command =
+      ItEnds.steps-by-kind image accepted calls idle frame output (class-by-numbers CommandFrame frame command)
 
   -- "A refused call is no part of the order": and in an order from an accepted image there is none.
   pub never-refused : (call : Call) → after call d .number ≡ 0
@@ -171,9 +170,9 @@ module _ (calls : List Call) (d : Device) (accepted : refusal (d .image) ≡ 0) 
   functions-in-step = Functions.functions-in-step calls d accepted lefts ran
 
   pub functions-read :
-      (bytes output : List ℕ) (r : After) → classOf bytes ≡ Read → Did (Frame bytes output) e r →
+      (bytes output : List ℕ) (r : After) → FrameOf Read bytes → Did (Frame bytes output) e r →
       r .output ≡ readOutput (isDoing (told .pending)) (told .asIf .status) (told .asIf .reply) (length output)
-  functions-read = Functions.functions-read calls d accepted lefts ran
+  functions-read bytes output r frame = Functions.functions-read calls d accepted lefts ran bytes output r (class-by-numbers Read bytes frame)
 
   pub functions-end : (quota : ℕ) (r : After) → longest ≤ quota → Did (Work quota) e r → isBusy (r .device) ≡ false
   functions-end = Functions.functions-end calls d accepted lefts ran
