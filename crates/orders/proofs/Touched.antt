@@ -24,23 +24,23 @@ use Rattle.state.specs.Parts.{powerOn}
 use Rattle.state.specs.Refusal.{deviceRefusal}
 use Rattle.state.proofs.Running.{no-job-idle}
 use Rattle.rules.specs.Whole.{Outcome, failedWith, whole}
-use Rattle.rules.proofs.Taken.{long-enough, sound-slot, one-end}
+use Rattle.rules.proofs.Taken.{below-count, long-enough, sound-slot, one-end}
 use Rattle.progress.specs.Spared.{Spared}
 use Rattle.progress.specs.Steps.{stepsOf}
 use Rattle.progress.proofs.Runs.{run-idle}
 use Rattle.progress.proofs.Kept.{run-kept}
 use Rattle.device.specs.Work.{Device, run}
-use Rattle.device.specs.Calls.{device, outcome, Call, PowerUp, Frame, Work, called}
+use Rattle.device.specs.Calls.{device, outcome, poweredUp, Call, PowerUp, Frame, Work, called}
 use Rattle.counters.specs.Compared.{Counter, counterIn}
 use Rattle.counters.specs.Reordering.{belongs, ownFrames}
 use Rattle.counters.proofs.WholeOwn.{others-kept}
 use Rattle.orders.specs.Orders.{allCalled}
-use Rattle.orders.specs.Ledger.{Pending, None, Doing, Ledger, entry, going, taken, worked, interrupted, cut, heard, entered, opened}
+use Rattle.orders.specs.Ledger.{Pending, None, Doing, Ledger, entry, going, taken, worked, interrupted, cut, heard, entered, ledger, opened}
 use Rattle.orders.specs.Schedules.{takenFrom, frameTaken, framesTaken}
-use Rattle.orders.specs.Touched.{Untouched}
+use Rattle.orders.specs.Touched.{Untouched, Touches}
 use Rattle.orders.proofs.Sound.{Working, AsPending, Sound}
 use Rattle.orders.proofs.Interrupted.{below-now, header-found, others-found, header-as-if, left-behind}
-use Rattle.orders.proofs.Ledger.{not-refused, next, start-sound}
+use Rattle.orders.proofs.Ledger.{not-refused, next, all-sound, start-sound}
 use Rattle.orders.proofs.Monotonic.{frame-image, work-image, call-header}
 
 -- the header is that of what the ledger says
@@ -242,6 +242,48 @@ pub never-touched :
 never-touched image accepted calls i untouched =
     all-kept calls (opened image) (device image powerOn) (start-sound image accepted) i
     (λ c inside. ⊎-elim (λ spared. inl spared) (⊎-elim (λ bad. inr (inl bad)) (λ none. inr (inr (tt, none)))) (untouched c inside))
+
+-- a call changes nothing but bytes in use of the slot of the frame under way
+module _ (l : Ledger) (d : Device) (sound : Sound l d) (i : ℕ) where
+  abbrev Changed : Call → Type 0
+  Changed call = getD (called call d .image) i 0 ≡ getD (d .image) i 0 → ⊥
+
+  as-steps : (quota : ℕ) → getD (called (Work quota) d .image) i 0 ≡ getD (run quota d .image) i 0
+  as-steps quota = ap (λ (x : List ℕ). getD x i 0) (work-image l d sound quota)
+
+  work-touches : (p : Pending) → l .pending ≡ p → AsPending p (l .asIf) d → (quota : ℕ) → Changed (Work quota) → Touches l (Work quota) (d .image) i
+  work-touches None e r quota changed =
+      absurd (changed (as-steps quota ∙ ap (λ (x : Device). getD (x .image) i 0) (run-idle quota d (no-job-idle (d .state) (r .none)))))
+  work-touches (Doing frame done) e (w, _) quota changed =
+      let below = below-count (outcome (w .found)) frame (w .passed) in
+      record {
+        frame = frame;
+        done = done;
+        quota = quota;
+        worked = refl;
+        under-way = e;
+        below = below-now frame done (l .asIf) d w;
+        sound =
+            sym (bad-same (w .found .image) (l .asIf .image) (counterOf frame) (w .alike .counters (counterOf frame) below))
+            ∙ sound-slot (outcome (w .found)) frame (w .passed);
+        in-use =
+            λ spared.
+            changed (as-steps quota ∙ run-kept quota d (not-refused l d sound) i (rw (w .at .counter-kept) spared));
+      }
+
+  touches-by : (call : Call) → Changed call → Touches l call (d .image) i
+  unfolding poweredUp
+  touches-by PowerUp changed = absurd (changed refl)
+  touches-by (Frame bytes output) changed = absurd (changed (ap (λ (x : List ℕ). getD x i 0) (frame-image l d sound bytes output)))
+  touches-by (Work quota) changed = work-touches (l .pending) refl (sound .state) quota changed
+
+pub touches-its-own :
+    (image : List ℕ) → refusal image ≡ 0 → (calls : List Call) (call : Call) (i : ℕ) →
+    (getD (called call (allCalled calls (device image powerOn)) .image) i 0 ≡ getD (allCalled calls (device image powerOn) .image) i 0 → ⊥) →
+    Touches (ledger calls (opened image)) call (allCalled calls (device image powerOn) .image) i
+touches-its-own image accepted calls call i =
+    touches-by (ledger calls (opened image)) (allCalled calls (device image powerOn))
+    (all-sound calls (opened image) (device image powerOn) (start-sound image accepted)) i call
 
 same-length-by : (calls : List Call) (l : Ledger) (d : Device) → Sound l d → length (allCalled calls d .image) ≡ length (d .image)
 unfolding allCalled

@@ -39,7 +39,7 @@ use Rattle.orders.specs.Ledger.{Ledger, isDoing, ledger, opened}
 use Rattle.orders.specs.InStep.{InStep}
 use Rattle.orders.specs.Schedules.{NoRestart, framesTaken, finals}
 use Rattle.orders.specs.Growing.{Grows, Counts}
-use Rattle.orders.specs.Touched.{Untouched}
+use Rattle.orders.specs.Touched.{Untouched, Touches}
 use Rattle.orders.proofs.Ledger as Along
 use Rattle.orders.proofs.Monotonic as Monotonic
 use Rattle.orders.proofs.Counts as Counts
@@ -109,12 +109,14 @@ module _ (image : List ℕ) (accepted : refusal image ≡ 0) (calls : List Call)
       (slotOf (called call d .image) c .value ≡ slotOf (d .image) c .value → ⊥) → Counts l call (d .image) (called call d .image) c
   counts-by-one bytes = Counts.counts-by-one image accepted bytes calls
 
-  -- What is never touched: header, gap, tail, bytes 12 to 15 of a slot, bad slots, and all other slots. The image keeps its length.
-  pub never-touched : (i : ℕ) → Untouched image calls i → getD (d .image) i 0 ≡ getD image i 0
-  never-touched = Touched.never-touched image accepted calls
+  -- What is never touched: header, gap, tail, bytes 12 to 15 of a slot, bad slots, and all other slots; the image keeps its length. And a
+  -- call changes a byte only if it is work, and the byte is one in use of the slot of the frame under way.
+  pub never-touched : (length (d .image) ≡ length image) × ((i : ℕ) → Untouched image calls i → getD (d .image) i 0 ≡ getD image i 0)
+  never-touched = (Touched.same-length image accepted calls, Touched.never-touched image accepted calls)
 
-  pub same-length : length (d .image) ≡ length image
-  same-length = Touched.same-length image accepted calls
+  pub touches-its-own :
+      (call : Call) (i : ℕ) → (getD (called call d .image) i 0 ≡ getD (d .image) i 0 → ⊥) → Touches l call (d .image) i
+  touches-its-own = Touched.touches-its-own image accepted calls
 
   -- "So busy clears after at most 15 steps", which the longest job has: a work call with that quota leaves the device idle, a job that is
   -- there is older by the steps that each call reports, and has done fewer than the longest has.
