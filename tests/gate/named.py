@@ -2,15 +2,19 @@
 """Compares the edits with docs/CONTRACTS.md, which names the wrong answers that are ruled out: in the
 section of a crate, those of must-fail/ in bold and those of wrong/ not, and each once. And each function
 has one in bold, but in the crates that the page excepts. A path to an edit that a page gives must be there,
-and what document 01 names must be tried by the gate."""
+what document 01 names must be tried by the gate, and every edit fits the crate as it stands: one that is tried
+on demand alone would else go stale unseen."""
 
 import pathlib
 import re
+import shutil
 import sys
+import tempfile
 
 sys.dont_write_bytecode = True  # nothing is written beside the sources
 sys.path[0] = str(pathlib.Path(__file__).resolve().parents[1])  # modules are named from tests/ on
 from gate.listed import GATE, ON_DEMAND, crates, edits  # noqa: E402
+from gate.room import apply  # noqa: E402
 from shared.tally import Failed, Tally  # noqa: E402
 
 ROOT = pathlib.Path(__file__).resolve().parents[2]
@@ -73,6 +77,20 @@ def paths():
     return f"{len(found)} of them"
 
 
+def fit():
+    """Each edit can be made: its texts stand in their files, and once."""
+    found = edits(ROOT, GATE) + edits(ROOT, ON_DEMAND)
+    with tempfile.TemporaryDirectory() as room:
+        for edit in found:
+            folder = pathlib.Path(room) / edit.folder / edit.name
+            shutil.copytree(ROOT / "crates" / edit.crate, folder)
+            try:
+                apply(edit, folder)
+            except Failed as failure:
+                raise Failed(f"{edit.name}: {failure}") from failure
+    return f"{len(found)} of them"
+
+
 def by_the_gate(text):
     rows = [line for line in text.splitlines() if line.startswith("| ") and not line.startswith("| Document")]
     others = [row for row in rows if [folder for _, folder, _ in PATH.findall(row)] != [GATE]]
@@ -89,6 +107,7 @@ def main():
         tally.test(f"wrong answers of {crate}", lambda: compare(crate, found.get(crate, ""), crate not in excepted))
     tally.test("what document 01 names", lambda: by_the_gate(found[FROM_DOCUMENT]))
     tally.test("paths to edits", paths)
+    tally.test("edits that fit", fit)
     return tally.end()
 
 
