@@ -7,4 +7,4 @@ pub mod Cuts
 pub mod Alikes
 pub mod Growing
 pub mod InARow
-pub mod SecondHalf
+pub mod CountersApart

@@ -4,27 +4,36 @@ use Prim.Native.Nat.{ℕ, _+_}
 use mathlib.Core.Path.{_≡_, refl, ap, sym, subst, _∙_}
 use mathlib.Core.Bool.{Bool, true, false}
 use mathlib.Core.List.{List, [], _∷_}
+use borrow.Author.Tests.{eqb-true}
 use lib.Dec.{eqb}
 use Rattle.words.specs.Choice.{pick}
 use Rattle.words.specs.Rows.{firstOf}
+use Rattle.words.proofs.Choice.{never, or-zero}
+use Rattle.image.specs.Header.{count}
 use Rattle.image.specs.Refusal.{refusal}
 use Rattle.image.proofs.Laid.{same-refusal}
 use Rattle.frames.specs.declared.Class.the-variants.{CommandFrame}
 use Rattle.frames.specs.Classes.{classOf}
 use Rattle.frames.specs.Layout.{counterOf}
 use Rattle.jobs.specs.Jobs.{longest}
+use Rattle.state.specs.declared.State.{State}
 use Rattle.state.specs.Refusal.{isRunning, jobRefusal, deviceRefusal}
-use Rattle.state.proofs.Refused.{device-refusal}
+use Rattle.state.proofs.Refused.{device-refusal, Fits, job-fits, fits-accepted}
 use Rattle.state.proofs.Running.{no-job-idle}
 use Rattle.arrival.specs.Arrival.{arrived}
 use Rattle.rules.specs.Formed.{Formed}
-use Rattle.rules.specs.Whole.{Outcome, whole}
+use Rattle.rules.specs.Whole.{Outcome, whole, statusOnArrival}
+use Rattle.rules.proofs.Taken.{below-count}
+use Rattle.arrival.proofs.Arrives.{arrived-fails}
 use Rattle.rules.proofs.Kept.{formed-on, whole-kept, whole-formed}
 use Rattle.device.specs.Work.{Device, run, stepsDone}
-use Rattle.device.specs.Calls.{device, outcome, After, PowerUp, Frame, Work, called, afterWork, afterSteps, imageAfterWork}
+use Rattle.device.specs.Calls.{device, outcome, After, PowerUp, Frame, Work, called, afterWork, afterSteps, imageAfterWork, isBusy}
 use Rattle.device.proofs.AfterCalls.{any-power-up, frame-accepted}
 use Rattle.progress.proofs.Runs.{run-add}
-use Rattle.progress.proofs.Ends.{same-end}
+use Rattle.progress.proofs.Jobs.{runs}
+use Rattle.progress.proofs.Kept.{run-not-refused}
+use Rattle.progress.proofs.Steps.{working-at}
+use Rattle.progress.proofs.Ends.{same-end, longest-is-enough, work-runs}
 use Rattle.progress.proofs.RunsWhole.{runs-whole}
 use Rattle.exchange.specs.Exchange.{Idle, allWorked, Ends}
 
@@ -84,3 +93,34 @@ module _ (d : Device) (idle : Idle d) (frame : List ℕ) (command : classOf fram
               ∙ idle .accepted;
           formed = subst (λ (o : Outcome). Formed (o .image) (o .keys)) (sym comes-to-whole) (whole-formed (outcome d) frame (idle .formed));
         }
+
+  -- There is such work: one call with the steps of the longest job. A frame that starts a job starts one that fits, and no job runs longer.
+  fits-by : (b : Bool) → eqb (statusOnArrival (d .image) (d .state .keys) frame) 0 ≡ b → Fits (count (d .image)) (start .state)
+  unfolding run Rattle.arrival.specs.Arrival.taken
+  fits-by true e there =
+      let working = working-at d frame (idle .none) (idle .formed .long (counterOf frame)) 0 there in
+      let below = below-count (outcome d) frame (eqb-true (statusOnArrival (d .image) (d .state .keys) frame) 0 e) in
+      (rw (working .0 .counter-kept) below, runs _ _ _ _ _ (start .image) (start .state) (working .0) (working .1))
+  fits-by false e there =
+      absurd (never (sym (ap (λ (s : State). s .job .there) (arrived-fails (d .image) (d .state) frame e) ∙ idle .none) ∙ there))
+
+  start-accepted : deviceRefusal (start .image) (start .state) ≡ 0
+  start-accepted = fits-accepted (d .image) (start .state) (idle .accepted) (fits-by _ refl)
+
+  idle-by : (b : Bool) → isBusy (run longest start) ≡ b → isBusy (run longest start) ≡ false
+  idle-by true there =
+      let e = run longest start in
+      let refused = sym (device-refusal (e .image) (e .state)) ∙ run-not-refused longest start start-accepted in
+      let accepted = or-zero (refusal (e .image)) (jobRefusal (count (e .image)) (e .state)) refused .1 in
+      absurd (never (sym (longest-is-enough start) ∙ job-fits (count (e .image)) (e .state) accepted there .1))
+  idle-by false none = none
+
+  pub work-that-ends : (output : List ℕ) → Ends frame d (called (Work longest) (called (Frame frame output) d))
+  unfolding allWorked
+  work-that-ends output =
+      record {
+        output = output;
+        quotas = longest ∷ [];
+        worked = refl;
+        none = rw (taken output, work-runs longest start start-accepted) (idle-by _ refl);
+      }

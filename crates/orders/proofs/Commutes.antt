@@ -17,7 +17,7 @@ use Rattle.counters.specs.Compared.{counterIn}
 use Rattle.rules.specs.Formed.{Formed}
 use Rattle.counters.specs.Reordering.{ownFrames, allWhole, ownStatuses}
 use Rattle.counters.proofs.InARow.{statuses-append}
-use Rattle.counters.proofs.SecondHalf.{header-all, same-counter, same-session, same-statuses}
+use Rattle.counters.proofs.CountersApart.{header-all, same-counter, same-session, same-statuses}
 use Rattle.orders.specs.Orders.{allCalled}
 use Rattle.orders.specs.Ledger.{Pending, None, Doing, Ledger, isDoing, entered, ledger, opened}
 use Rattle.orders.specs.Schedules.{NoRestart, underWay, framesTaken, frameEnded, finals}

@@ -33,7 +33,7 @@ use Rattle.rules.specs.Whole.{Outcome, statusOnArrival, allChecks, failedWith, 
 use Rattle.counters.specs.Compared.{counterIn, Alike}
 use Rattle.rules.specs.Formed.{Formed}
 use Rattle.counters.specs.Reordering.{ownFrames, allWhole, ownStatuses}
-use Rattle.counters.proofs.SecondHalf.{same-counter, same-session, same-statuses}
+use Rattle.counters.proofs.CountersApart.{same-counter, same-session, same-statuses}
 use Rattle.orders.specs.Orders.{allCalled, answers, lastLeft}
 use Rattle.orders.specs.Ledger.{Ledger, isDoing, ledger, opened}
 use Rattle.orders.specs.InStep.{InStep}
@@ -53,6 +53,7 @@ use Rattle.exchange.specs.Built.{Built, frameOf, Sized, InOrder, RootUnset, Cou
 use Rattle.exchange.specs.Exchange.{Idle, Ends, readFrom, ReadsGood}
 use Rattle.exchange.proofs.Arrives as Arrives
 use Rattle.exchange.proofs.Carried as Carried
+use Rattle.exchange.proofs.Comes as Comes
 use Rattle.exchange.proofs.BothEnds as BothEnds
 use Rattle.promises.specs.Functions.{Did, Ran, ReplyRead}
 use Rattle.promises.proofs.Entry as Entry
@@ -61,8 +62,7 @@ use Rattle.promises.proofs.Functions as Functions
 use Rattle.promises.proofs.Examples as Examples
 use Rattle.promises.proofs.ExamplesHappen as ExamplesHappen
 
--- Powered up on an accepted image, and any calls, in any order: `d` is the device that they leave, and `l` is the ledger, which is told
--- from the calls alone.
+-- Powered up on an accepted image, and any calls in any order: `d` is the device that they leave, `l` the ledger, told from them alone.
 module _ (image : List ℕ) (accepted : refusal image ≡ 0) (calls : List Call) where
   abbrev d : Device
   d = allCalled calls (device image powerOn)
@@ -70,13 +70,11 @@ module _ (image : List ℕ) (accepted : refusal image ≡ 0) (calls : List Call)
   abbrev l : Ledger
   l = ledger calls (opened image)
 
-  -- Demand 3: whatever the order of frames, steps, resets and power cuts, once idle the device is as if the frames that found it idle had
-  -- run whole. What is compared is `Alike`.
+  -- Demand 3: whatever the order, once idle the device is as if the frames that found it idle had run whole. `Alike` is what is compared.
   pub as-if-whole : isBusy d ≡ false → Alike (outcome d) (l .asIf)
   as-if-whole = Along.as-if-whole image accepted calls
 
-  -- At every moment the ledger agrees with the device: busy while a frame is under way, with its job and so many of its steps done; reset
-  -- enabled or not; and once idle what it would be.
+  -- At every moment the ledger agrees with the device: the frame under way with its job and its steps done, reset-enable; and once idle all.
   pub in-step : InStep l d
   in-step = Along.in-step image accepted calls
 
@@ -86,10 +84,9 @@ module _ (image : List ℕ) (accepted : refusal image ≡ 0) (calls : List Call)
       after (Frame bytes output) d .output ≡ readOutput (isDoing (l .pending)) (l .asIf .status) (l .asIf .reply) (length output)
   reads bytes output frame = Along.reads image accepted calls bytes output (class-by-numbers Read bytes frame)
 
-  -- Demand 3: frames on different counters commute. Of a device that is idle, for any schedule: two orders of calls without a reset or a power
-  -- cut, with any quotas of steps, reads and frames that are ignored, both of which leave it idle, and in which the frames taken for a
-  -- counter are the same, in the same order. Then so are what is compared of the counter, its session key, and the final status of each
-  -- of its frames.
+  -- Demand 3: frames on different counters commute. Of an idle device, for any schedule: two orders of calls without a reset or a power cut,
+  -- both of which leave it idle, and in which the frames taken for a counter are the same, in the same order. Then so are what is compared
+  -- of the counter, its session key, and the final status of each of its frames.
   pub device-commutes :
       isBusy d ≡ false → (xs ys : List Call) → NoRestart xs l → NoRestart ys l → isBusy (allCalled xs d) ≡ false →
       isBusy (allCalled ys d) ≡ false → (c : ℕ) → ownFrames c (framesTaken xs l) ≡ ownFrames c (framesTaken ys l) →
@@ -144,9 +141,8 @@ module _ (image : List ℕ) (accepted : refusal image ≡ 0) (calls : List Call)
   pub never-refused : (call : Call) → after call d .number ≡ 0
   never-refused = Along.never-refused image accepted calls
 
--- A call of a function power_up, frame or work, of which only the contract is used, leaves what is said of the call: number, steps,
--- output, image and state. "Each call is handed the state and the image that the one before it left": so a run made of such calls leaves
--- what is said of it, call by call.
+-- A call of power_up, frame or work, of which only the contract is used, leaves what is said of the call: number, steps, output, image and
+-- state. "Each call is handed the state and the image that the one before it left": so a run of them leaves what is said of it.
 pub functions-leave : (call : Call) (d : Device) (r : After) → Did call d r → after call d ≡ r
 functions-leave = Functions.functions-leave
 
@@ -205,8 +201,7 @@ longest-job = Longest.longest-job
 pub longest-is-enough : (d : Device) → isRunning (run longest d .state) ≡ false
 longest-is-enough = Ending.longest-is-enough
 
--- Work of m + n steps is work of m and then of n, the steps reported too, of any device that is not refused: so a cut inside a call is a
--- cut between two.
+-- Work of m + n steps is work of m and then of n, of any device that is not refused: so a cut inside a call is a cut between two.
 pub work-adds :
     (m n : ℕ) (d : Device) → deviceRefusal (d .image) (d .state) ≡ 0 →
     (called (Work (m + n)) d ≡ called (Work n) (called (Work m) d))
@@ -230,8 +225,13 @@ pub built-passes :
     allChecks o (frameOf counter b) ≡ 0
 built-passes = Carried.built-passes
 
--- An idle device takes a built frame, and any work calls leave it idle again (`Ends`; `it-ends` says that there are such). Type 00: the
--- root key in use is the one sent.
+-- An idle device takes a frame, and work calls leave it idle again, of which there are always some.
+pub work-that-ends :
+    (d : Device) → Idle d → (frame : List ℕ) → FrameOf CommandFrame frame → (output : List ℕ) →
+    Ends frame d (called (Work longest) (called (Frame frame output) d))
+work-that-ends d idle frame command = Comes.work-that-ends d idle frame (class-by-numbers CommandFrame frame command)
+
+-- A built frame, then. Type 00: the root key in use is the one sent.
 pub root-key-in-use :
     (counter : ℕ) (key : List ℕ) → length key ≡ 32 → Bytes key → (key ≡ replicate 32 255 → ⊥) → (d e : Device) → Idle d →
     InOrder (outcome d) counter → RootUnset (outcome d) counter → Ends (rootKeyFrame counter key) d e →
