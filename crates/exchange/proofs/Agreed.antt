@@ -30,14 +30,14 @@ use Rattle.rules.specs.Whole.{Outcome, frameKept, isTemporary, kindIn, valueIn,
 use Rattle.rules.specs.Whole.{newSessionKey as derived}
 use Rattle.rules.proofs.Kept.{whole-kept}
 use Rattle.host.specs.Frames.{signedBy, newSessionKey, rootKeyFrame, sessionKeyFrame}
-use Rattle.exchange.specs.Built.{RootKeyBuilt, SessionKeyBuilt, InOrder, RootUnset, CounterSet, Paired, InSession}
+use Rattle.exchange.specs.Built.{RootKeyBuilt, SessionKeyBuilt, CounterInOrder, RootUnset, CounterSet, Paired, InSession}
 use Rattle.exchange.proofs.Fields.{root-key-sent, counter-sent, data-sent}
 use Rattle.exchange.proofs.Arrives.{built-form}
 use Rattle.exchange.proofs.Carried.{built-carried-out}
 
 module _
     (o : Outcome) (formed : Formed (o .image) (o .keys)) (counter : ℕ) (root keyData : List ℕ) (size : length keyData ≡ 4)
-    (order : InOrder o counter) (set-counter : CounterSet o counter) (same-root : rootKey (o .image) counter ≡ root) where
+    (order : CounterInOrder o counter) (set-counter : CounterSet o counter) (same-root : rootKey (o .image) counter ≡ root) where
   abbrev frame : List ℕ
   frame = sessionKeyFrame counter root keyData
 
@@ -89,7 +89,7 @@ key-back counter key size bytes =
 
 module _
     (o : Outcome) (formed : Formed (o .image) (o .keys)) (counter : ℕ) (key : List ℕ) (size : length key ≡ 32) (bytes : Bytes key)
-    (lasting : key ≡ replicate 32 255 → ⊥) (order : InOrder o counter) (unset : RootUnset o counter) where
+    (lasting : key ≡ replicate 32 255 → ⊥) (order : CounterInOrder o counter) (unset : RootUnset o counter) where
   abbrev rootFrame : List ℕ
   rootFrame = rootKeyFrame counter key
 

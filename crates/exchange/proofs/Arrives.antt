@@ -24,10 +24,10 @@ use Rattle.frames.proofs.Layouts.{long-frames}
 use Rattle.checks.specs.Checks.{wrongState, notReady, checksOf, arrivalStatus}
 use Rattle.rules.specs.Whole.{Outcome, statusOnArrival}
 use Rattle.host.specs.Frames.{head, signedBy, rootKeyFrame, sessionKeyFrame, incrementFrame, requestFrame}
-use Rattle.exchange.specs.Built.{Built, RootKeyBuilt, SessionKeyBuilt, IncrementBuilt, RequestBuilt, frameOf, Sized, sessionOf, InOrder, Awaited}
+use Rattle.exchange.specs.Built.{HostFrame, RootKeyBuilt, SessionKeyBuilt, IncrementBuilt, RequestBuilt, frameOf, Sized, sessionOf, CounterInOrder, Awaited}
 
 -- the type of a built frame
-abbrev pub typeBuilt : Built → ℕ
+abbrev pub typeBuilt : HostFrame → ℕ
 typeBuilt (RootKeyBuilt key) = 0
 typeBuilt (SessionKeyBuilt root keyData) = 1
 typeBuilt (IncrementBuilt key value) = 2
@@ -55,7 +55,7 @@ signed-form type counter key bytes known size =
     let signature = HMAC key (head type counter ++ bytes) in
     form-of type counter (bytes ++ signature) known (omega (arith, length-append bytes signature, length-HMAC key (head type counter ++ bytes), size))
 
-pub built-form : (b : Built) (counter : ℕ) → Sized b → Form (typeBuilt b) counter (frameOf counter b)
+pub built-form : (b : HostFrame) (counter : ℕ) → Sized b → Form (typeBuilt b) counter (frameOf counter b)
 unfolding rootKeyFrame sessionKeyFrame incrementFrame requestFrame
 built-form (RootKeyBuilt key) counter size =
     let signature = field 4 28 (HMAC key (head 0 counter)) in
@@ -80,7 +80,7 @@ module _ (type counter : ℕ) (frame : List ℕ) (form : Form type counter frame
   first-three counters slot hasKey = rw (form .typed, right-size, form .reserved, le-ltb 3 type (form .known))
 
   arrives :
-      (o : Outcome) → InOrder o counter → wrongState type (slotOf (o .image) counter) ≡ false →
+      (o : Outcome) → CounterInOrder o counter → wrongState type (slotOf (o .image) counter) ≡ false →
       notReady type (slotOf (o .image) counter) (sessionOf o counter .there) ≡ false → statusOnArrival (o .image) (o .keys) frame ≡ 0
   unfolding statusOnArrival arrivalStatus firstOf pick
   arrives o order state ready =
@@ -98,25 +98,25 @@ module _ (type counter : ℕ) (frame : List ℕ) (form : Form type counter frame
 
 -- checks 1 to 3, the first three rows
 pub built-in-form :
-    (b : Built) (counter : ℕ) → Sized b → (counters : ℕ) (slot : Slot) (hasKey : Bool) →
+    (b : HostFrame) (counter : ℕ) → Sized b → (counters : ℕ) (slot : Slot) (hasKey : Bool) →
     firstFailing (take 3 (checksOf (frameOf counter b) counters slot hasKey)) ≡ 0
 built-in-form b counter size = first-three (typeBuilt b) counter (frameOf counter b) (built-form b counter size)
 
 -- checks 1 to 7
 pub built-arrives :
-    (b : Built) (counter : ℕ) (o : Outcome) → Sized b → InOrder o counter → Awaited o counter b →
+    (b : HostFrame) (counter : ℕ) (o : Outcome) → Sized b → CounterInOrder o counter → Awaited o counter b →
     statusOnArrival (o .image) (o .keys) (frameOf counter b) ≡ 0
 unfolding pick
 built-arrives b counter o size order awaited =
     arrives (typeBuilt b) counter (frameOf counter b) (built-form b counter size) o order (state b awaited) (ready b awaited)
   where
-    state : (b : Built) → Awaited o counter b → wrongState (typeBuilt b) (slotOf (o .image) counter) ≡ false
+    state : (b : HostFrame) → Awaited o counter b → wrongState (typeBuilt b) (slotOf (o .image) counter) ≡ false
     state (RootKeyBuilt key) unset = unset
     state (SessionKeyBuilt root keyData) set = rw set
     state (IncrementBuilt key value) known = refl
     state (RequestBuilt key tag) known = refl
 
-    ready : (b : Built) → Awaited o counter b → notReady (typeBuilt b) (slotOf (o .image) counter) (sessionOf o counter .there) ≡ false
+    ready : (b : HostFrame) → Awaited o counter b → notReady (typeBuilt b) (slotOf (o .image) counter) (sessionOf o counter .there) ≡ false
     ready (RootKeyBuilt key) unset = refl
     ready (SessionKeyBuilt root keyData) set = refl
     ready (IncrementBuilt key value) known = rw (known .0, known .1)

@@ -15,9 +15,9 @@ use Rattle.device.specs.Work.{Device}
 use Rattle.device.specs.Calls.{outcome, After}
 use Rattle.device.proofs.AfterCalls.{frame-accepted}
 use Rattle.host.specs.Frames.{newSessionKey, rootKeyFrame, sessionKeyFrame, incrementFrame, requestFrame}
-use Rattle.exchange.specs.Built.{Built, RootKeyBuilt, SessionKeyBuilt, IncrementBuilt, RequestBuilt, frameOf, Sized}
-use Rattle.exchange.specs.Built.{InOrder, RootUnset, CounterSet, Paired, InSession}
-use Rattle.exchange.specs.Exchange.{Idle, Ends, readFrom, ReadsGood}
+use Rattle.exchange.specs.Built.{HostFrame, RootKeyBuilt, SessionKeyBuilt, IncrementBuilt, RequestBuilt, frameOf, Sized}
+use Rattle.exchange.specs.Built.{CounterInOrder, RootUnset, CounterSet, Paired, InSession}
+use Rattle.exchange.specs.Exchange.{AtRest, Ends, readFrom, ReadsGood}
 use Rattle.exchange.proofs.Arrives.{typeBuilt, built-form, is-command}
 use Rattle.exchange.proofs.Replies.{reading, read-as-good}
 use Rattle.exchange.proofs.Agreed.{root-key-agreed, session-key-agreed}
@@ -25,17 +25,17 @@ use Rattle.exchange.proofs.Counted.{increment-counted}
 use Rattle.exchange.proofs.Comes.{not-refused, comes-to-whole, idle-again}
 
 -- a built frame, and work that leaves the device idle
-module _ (b : Built) (counter : ℕ) (size : Sized b) (d e : Device) (idle : Idle d) (ends : Ends (frameOf counter b) d e) where
+module _ (b : HostFrame) (counter : ℕ) (size : Sized b) (d e : Device) (idle : AtRest d) (ends : Ends (frameOf counter b) d e) where
   command : classOf (frameOf counter b) ≡ CommandFrame
   command = is-command (typeBuilt b) counter (frameOf counter b) (built-form b counter size)
 
-  pub built-ends : (outcome e ≡ whole (outcome d) (frameOf counter b)) × Idle e
+  pub built-ends : (outcome e ≡ whole (outcome d) (frameOf counter b)) × AtRest e
   built-ends = (comes-to-whole d idle (frameOf counter b) command e ends, idle-again d idle (frameOf counter b) command e ends)
 
 -- the root key in use is the one sent
 module _
-    (counter : ℕ) (key : List ℕ) (size : length key ≡ 32) (bytes : Bytes key) (lasting : key ≡ replicate 32 255 → ⊥) (d e : Device) (idle : Idle d)
-    (order : InOrder (outcome d) counter) (unset : RootUnset (outcome d) counter) (ends : Ends (rootKeyFrame counter key) d e) where
+    (counter : ℕ) (key : List ℕ) (size : length key ≡ 32) (bytes : Bytes key) (lasting : key ≡ replicate 32 255 → ⊥) (d e : Device) (idle : AtRest d)
+    (order : CounterInOrder (outcome d) counter) (unset : RootUnset (outcome d) counter) (ends : Ends (rootKeyFrame counter key) d e) where
   pub root-key-in-use :
       Paired (outcome e) counter key (pick (isSet (slotOf (d .image) counter .«counter_state»)) (slotOf (d .image) counter .value) 0)
   root-key-in-use =
@@ -44,7 +44,7 @@ module _
 
 -- the device's session key is the host's, and the value is as it was
 module _
-    (counter : ℕ) (root keyData : List ℕ) (size : length keyData ≡ 4) (d e : Device) (idle : Idle d) (order : InOrder (outcome d) counter)
+    (counter : ℕ) (root keyData : List ℕ) (size : length keyData ≡ 4) (d e : Device) (idle : AtRest d) (order : CounterInOrder (outcome d) counter)
     (set-counter : CounterSet (outcome d) counter) (same-root : rootKey (d .image) counter ≡ root)
     (ends : Ends (sessionKeyFrame counter root keyData) d e) where
   pub session-key-shared : InSession (outcome e) counter (newSessionKey root keyData) (slotOf (d .image) counter .value)
@@ -54,7 +54,7 @@ module _
 
 -- an increment of the value is counted: the counter stays in session, and its value is one more
 module _
-    (counter : ℕ) (key : List ℕ) (value : ℕ) (d e : Device) (idle : Idle d) (session : InSession (outcome d) counter key value)
+    (counter : ℕ) (key : List ℕ) (value : ℕ) (d e : Device) (idle : AtRest d) (session : InSession (outcome d) counter key value)
     (below : value < 0xFFFFFFFF) (ends : Ends (incrementFrame counter key (bytesOf value)) d e) where
   pub value-counted : InSession (outcome e) counter key (suc value)
   value-counted =
@@ -63,13 +63,13 @@ module _
 
 -- a request is answered: a read of 49 bytes is good, with the device's value
 module _
-    (counter : ℕ) (key tag : List ℕ) (size : length tag ≡ 12) (value : ℕ) (d e : Device) (idle : Idle d)
+    (counter : ℕ) (key tag : List ℕ) (size : length tag ≡ 12) (value : ℕ) (d e : Device) (idle : AtRest d)
     (session : InSession (outcome d) counter key value) (ends : Ends (requestFrame counter key tag) d e)
     (dummy : ℕ) (buffer : List ℕ) (room : length buffer ≡ 49) where
   long : length key ≡ 32
   long = ap length (sym (session .same-key)) ∙ idle .formed .long counter
 
-  abbrev come : (outcome e ≡ whole (outcome d) (requestFrame counter key tag)) × Idle e
+  abbrev come : (outcome e ≡ whole (outcome d) (requestFrame counter key tag)) × AtRest e
   come = built-ends (RequestBuilt key tag) counter size d e idle ends
 
   as-read : readFrom e dummy buffer ≡ reading (outcome d) counter key tag value long size session
@@ -86,7 +86,7 @@ module _
 -- A counter with nothing set is paired, a session is opened under the root key, and a request is answered with 0: each frame is built by
 -- the host, and each is followed by work calls that leave the device idle.
 module _
-    (d paired opened asked : Device) (counter : ℕ) (root keyData tag : List ℕ) (idle : Idle d) (order : InOrder (outcome d) counter)
+    (d paired opened asked : Device) (counter : ℕ) (root keyData tag : List ℕ) (idle : AtRest d) (order : CounterInOrder (outcome d) counter)
     (root-unset : RootUnset (outcome d) counter) (counter-unset : isSet (slotOf (d .image) counter .«counter_state») ≡ false)
     (long : length root ≡ 32) (bytes : Bytes root) (lasting : root ≡ replicate 32 255 → ⊥) (four : length keyData ≡ 4)
     (twelve : length tag ≡ 12) (first : Ends (rootKeyFrame counter root) d paired)
@@ -96,10 +96,10 @@ module _
   unfolding pick
   in-use = rw counter-unset at (root-key-in-use counter root long bytes lasting d paired idle order root-unset first)
 
-  idle-paired : Idle paired
+  idle-paired : AtRest paired
   idle-paired = built-ends (RootKeyBuilt root) counter long d paired idle first .1
 
-  idle-opened : Idle opened
+  idle-opened : AtRest opened
   idle-opened = built-ends (SessionKeyBuilt root keyData) counter four paired opened idle-paired second .1
 
   shared : InSession (outcome opened) counter (newSessionKey root keyData) 0

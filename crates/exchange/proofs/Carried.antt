@@ -23,14 +23,14 @@ use Rattle.decision.specs.Decision.{decision}
 use Rattle.rules.specs.Whole.{Outcome, frameKept, kindIn, valueIn, keyIn, lastStatus, allChecks, carriedOut, whole, Verifies}
 use Rattle.rules.proofs.TenChecks.{all-checks}
 use Rattle.host.specs.Frames.{head, signedBy, rootKeyFrame, sessionKeyFrame, incrementFrame, requestFrame}
-use Rattle.exchange.specs.Built.{Built, RootKeyBuilt, SessionKeyBuilt, IncrementBuilt, RequestBuilt, frameOf}
-use Rattle.exchange.specs.Built.{Sized, sessionOf, InOrder, Awaited, Agreed, InSession}
+use Rattle.exchange.specs.Built.{HostFrame, RootKeyBuilt, SessionKeyBuilt, IncrementBuilt, RequestBuilt, frameOf}
+use Rattle.exchange.specs.Built.{Sized, sessionOf, CounterInOrder, Awaited, Agreed, InSession}
 use Rattle.exchange.proofs.Fields.{data-sent}
 use Rattle.exchange.proofs.Passes.{root-key-passes, session-key-passes, increment-passes, request-passes}
 use Rattle.exchange.proofs.Arrives.{built-form, built-arrives}
 
 -- the command of a built frame
-abbrev commandBuilt : Built → Command
+abbrev commandBuilt : HostFrame → Command
 commandBuilt (RootKeyBuilt key) = WriteRootKey
 commandBuilt (SessionKeyBuilt root keyData) = UpdateSessionKey
 commandBuilt (IncrementBuilt key value) = IncrementCounter
@@ -43,7 +43,7 @@ root-command temporary state =
     either writes temporary _ _ (λ _. either writes _ _ _ (λ _. refl) (λ _. refl)) (λ _. either writes _ _ _ (λ _. refl) (λ _. refl))
 
 module _ (o : Outcome) (counter : ℕ) where
-  its-command : (b : Built) → commandOf (kindIn o (frameOf counter b)) ≡ commandBuilt b
+  its-command : (b : HostFrame) → commandOf (kindIn o (frameOf counter b)) ≡ commandBuilt b
   unfolding kindOf rootKeyFrame sessionKeyFrame incrementFrame requestFrame signedBy pick
   its-command (RootKeyBuilt key) = root-command _ _
   its-command (SessionKeyBuilt root keyData) = refl
@@ -51,14 +51,14 @@ module _ (o : Outcome) (counter : ℕ) where
   its-command (RequestBuilt key tag) = refl
 
   -- the session key that the device looks at is that of the counter
-  pub its-key : (b : Built) → Sized b → keyIn o (frameOf counter b) ≡ sessionOf o counter
+  pub its-key : (b : HostFrame) → Sized b → keyIn o (frameOf counter b) ≡ sessionOf o counter
   its-key b size = rw (built-form b counter size .named)
 
-  pub its-value : (b : Built) → Sized b → valueIn o (frameOf counter b) ≡ slotOf (o .image) counter .value
+  pub its-value : (b : HostFrame) → Sized b → valueIn o (frameOf counter b) ≡ slotOf (o .image) counter .value
   its-value b size = ap (λ (c : ℕ). slotOf (o .image) c .value) (built-form b counter size .named)
 
   -- check 8
-  signed : (b : Built) → Sized b → Agreed o counter b → Verifies (commandBuilt b) o (frameOf counter b)
+  signed : (b : HostFrame) → Sized b → Agreed o counter b → Verifies (commandBuilt b) o (frameOf counter b)
   signed (RootKeyBuilt key) size agreed = root-key-passes o counter key size
   signed (SessionKeyBuilt root keyData) size agreed = rw (← agreed) (session-key-passes o counter keyData size)
   signed (IncrementBuilt key value) size agreed =
@@ -77,7 +77,7 @@ module _ (o : Outcome) (counter : ℕ) where
       ∙ ap (λ (l : List ℕ). wordAt l 0) (data-sent key 2 counter (bytesOf value) 4 refl (omega arith)) ∙ omega arith)
 
   -- checks 8 to 10
-  last-pass : (b : Built) → Sized b → Agreed o counter b → lastStatus (commandBuilt b) o (frameOf counter b) ≡ 0
+  last-pass : (b : HostFrame) → Sized b → Agreed o counter b → lastStatus (commandBuilt b) o (frameOf counter b) ≡ 0
   unfolding lastStatus decision firstOf pick
   last-pass (RootKeyBuilt key) size agreed = rw (signed (RootKeyBuilt key) size agreed)
   last-pass (SessionKeyBuilt root keyData) size agreed = rw (signed (SessionKeyBuilt root keyData) size agreed)
@@ -88,7 +88,7 @@ module _ (o : Outcome) (counter : ℕ) where
       rw (signed b size agreed, its-value b size, same, eq-eqb v v refl, ne-eqb v 0xFFFFFFFF (λ last. omega (arith, last, agreed .2)))
   last-pass (RequestBuilt key tag) size agreed = rw (signed (RequestBuilt key tag) size agreed)
 
-  module _ (b : Built) (size : Sized b) (order : InOrder o counter) (awaited : Awaited o counter b) (agreed : Agreed o counter b) where
+  module _ (b : HostFrame) (size : Sized b) (order : CounterInOrder o counter) (awaited : Awaited o counter b) (agreed : Agreed o counter b) where
     -- checks 1 to 10
     pub built-passes : allChecks o (frameOf counter b) ≡ 0
     unfolding pick

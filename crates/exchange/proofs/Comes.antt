@@ -35,7 +35,7 @@ use Rattle.progress.proofs.Kept.{run-not-refused}
 use Rattle.progress.proofs.Steps.{working-at}
 use Rattle.progress.proofs.Ends.{same-end, longest-is-enough, work-runs}
 use Rattle.progress.proofs.RunsWhole.{runs-whole}
-use Rattle.exchange.specs.Exchange.{Idle, allWorked, Ends}
+use Rattle.exchange.specs.Exchange.{AtRest, allWorked, Ends}
 
 -- some steps lead from a device to another
 record Runs (d e : Device) : Type 0 where
@@ -58,14 +58,14 @@ all-work (quota ∷ more) d =
     record { steps = rest .steps + first .steps; ran = rest .ran ∙ ap (run (rest .steps)) (first .ran) ∙ sym (run-add (rest .steps) (first .steps) d) }
 
 -- a power-up on an accepted image leaves an idle device
-pub powered-up-idle : (d : Device) → refusal (d .image) ≡ 0 → Idle (called PowerUp d)
+pub powered-up-idle : (d : Device) → refusal (d .image) ≡ 0 → AtRest (called PowerUp d)
 powered-up-idle d accepted = rw (any-power-up d) (record { none = refl; accepted = accepted; formed = formed-on (d .image) accepted })
 
-pub not-refused : (d : Device) → Idle d → deviceRefusal (d .image) (d .state) ≡ 0
+pub not-refused : (d : Device) → AtRest d → deviceRefusal (d .image) (d .state) ≡ 0
 unfolding jobRefusal firstOf pick
 not-refused d idle = rw (device-refusal (d .image) (d .state), idle .accepted, idle .none)
 
-module _ (d : Device) (idle : Idle d) (frame : List ℕ) (command : classOf frame ≡ CommandFrame) where
+module _ (d : Device) (idle : AtRest d) (frame : List ℕ) (command : classOf frame ≡ CommandFrame) where
   abbrev start : Device
   start = device (d .image) (arrived (d .image) (d .state) frame)
 
@@ -83,7 +83,7 @@ module _ (d : Device) (idle : Idle d) (frame : List ℕ) (command : classOf fram
     pub comes-to-whole : outcome e ≡ whole (outcome d) frame
     comes-to-whole = ap outcome at-its-end ∙ runs-whole d frame (idle .none) (idle .formed .long (counterOf frame))
 
-    pub idle-again : Idle e
+    pub idle-again : AtRest e
     idle-again =
         record {
           none = ends .none;

@@ -16,21 +16,21 @@ use Rattle.host.specs.Building.{dataSizeOf}
 
 -- what it is built from. 00: the root key. 01: the root key and key data. 02: the session key and the counter value, four bytes.
 -- 03: the session key and the tag
-pub data Built : Type 0 where
-  RootKeyBuilt : List ℕ → Built
-  SessionKeyBuilt : List ℕ → List ℕ → Built
-  IncrementBuilt : List ℕ → List ℕ → Built
-  RequestBuilt : List ℕ → List ℕ → Built
+pub data HostFrame : Type 0 where
+  RootKeyBuilt : List ℕ → HostFrame
+  SessionKeyBuilt : List ℕ → List ℕ → HostFrame
+  IncrementBuilt : List ℕ → List ℕ → HostFrame
+  RequestBuilt : List ℕ → List ℕ → HostFrame
 
 -- its bytes
-abbrev pub frameOf : ℕ → Built → List ℕ
+abbrev pub frameOf : ℕ → HostFrame → List ℕ
 frameOf counter (RootKeyBuilt key) = rootKeyFrame counter key
 frameOf counter (SessionKeyBuilt root keyData) = sessionKeyFrame counter root keyData
 frameOf counter (IncrementBuilt key value) = incrementFrame counter key value
 frameOf counter (RequestBuilt key tag) = requestFrame counter key tag
 
 -- its data has the length that the frame table gives it
-abbrev pub Sized : Built → Type 0
+abbrev pub Sized : HostFrame → Type 0
 Sized (RootKeyBuilt key) = length key ≡ dataSizeOf 0
 Sized (SessionKeyBuilt root keyData) = length keyData ≡ dataSizeOf 1
 Sized (IncrementBuilt key value) = length value ≡ dataSizeOf 2
@@ -41,7 +41,7 @@ abbrev pub sessionOf : Outcome → ℕ → Key
 sessionOf o counter = getD (o .keys) counter noKey
 
 -- checks 4 and 5: the counter is below the count, and its slot is not bad
-pub record InOrder (o : Outcome) (counter : ℕ) : Type 0 where
+pub record CounterInOrder (o : Outcome) (counter : ℕ) : Type 0 where
   pub below : counter < count (o .image)
   pub sound : isBad (slotOf (o .image) counter) ≡ false
 
@@ -52,7 +52,7 @@ abbrev pub CounterSet : Outcome → ℕ → Type 0
 CounterSet o counter = isSet (slotOf (o .image) counter .«counter_state») ≡ true
 
 -- checks 6 and 7. 00: root is unset. 01: the counter is set. 02 and 03: so it is, and it has a session key
-abbrev pub Awaited : Outcome → ℕ → Built → Type 0
+abbrev pub Awaited : Outcome → ℕ → HostFrame → Type 0
 Awaited o counter (RootKeyBuilt key) = RootUnset o counter
 Awaited o counter (SessionKeyBuilt root keyData) = CounterSet o counter
 Awaited o counter (IncrementBuilt key value) = CounterSet o counter × (sessionOf o counter .there ≡ true)
@@ -60,7 +60,7 @@ Awaited o counter (RequestBuilt key tag) = CounterSet o counter × (sessionOf o 
 
 -- checks 8 to 10: the keys are the device's, and the value too. 00: any key. 01: the root key in use. 02: the session key, and the
 -- counter value, which is not the last one. 03: the session key
-abbrev pub Agreed : Outcome → ℕ → Built → Type 0
+abbrev pub Agreed : Outcome → ℕ → HostFrame → Type 0
 Agreed o counter (RootKeyBuilt key) = Unit {0}
 Agreed o counter (SessionKeyBuilt root keyData) = rootKey (o .image) counter ≡ root
 Agreed o counter (IncrementBuilt key value) =
@@ -69,7 +69,7 @@ Agreed o counter (RequestBuilt key tag) = sessionOf o counter .bytes ≡ key
 
 -- what a frame that is carried out leaves. 00: the counter is paired, root and counter set, with this root key in use and this value
 pub record Paired (o : Outcome) (counter : ℕ) (root : List ℕ) (value : ℕ) : Type 0 where
-  pub order : InOrder o counter
+  pub order : CounterInOrder o counter
   pub root-set : isSet (slotOf (o .image) counter .«root_state») ≡ true
   pub counter-set : CounterSet o counter
   pub root-key : rootKey (o .image) counter ≡ root
@@ -77,7 +77,7 @@ pub record Paired (o : Outcome) (counter : ℕ) (root : List ℕ) (value : ℕ) 
 
 -- 01: the counter is in session, with this session key and this value
 pub record InSession (o : Outcome) (counter : ℕ) (key : List ℕ) (value : ℕ) : Type 0 where
-  pub order : InOrder o counter
+  pub order : CounterInOrder o counter
   pub counter-set : CounterSet o counter
   pub there : sessionOf o counter .there ≡ true
   pub same-key : sessionOf o counter .bytes ≡ key

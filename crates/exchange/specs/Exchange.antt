@@ -12,7 +12,7 @@ use Rattle.host.specs.declared.Verdict.the-variants.{Good}
 use Rattle.host.specs.Reading.{readReply, partOf}
 
 -- an idle device: no job, an accepted image, and the session keys that every state of the type has
-pub record Idle (d : Device) : Type 0 where
+pub record AtRest (d : Device) : Type 0 where
   pub none : isBusy d ≡ false
   pub accepted : refusal (d .image) ≡ 0
   pub formed : Formed (d .image) (d .state .keys)

@@ -9,9 +9,9 @@ allCalled [] d = d
 allCalled (call ∷ more) d = allCalled more (called call d)
 
 -- what each call leaves, in order
-unfoldable pub answers : List Call → Device → List After
-answers [] d = []
-answers (call ∷ more) d = after call d ∷ answers more (called call d)
+unfoldable pub allLeft : List Call → Device → List After
+allLeft [] d = []
+allLeft (call ∷ more) d = after call d ∷ allLeft more (called call d)
 
 -- the device that the last of them left, or the first one where there is none
 unfoldable pub lastLeft : List After → Device → Device

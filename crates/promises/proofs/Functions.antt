@@ -19,7 +19,7 @@ use Rattle.device.proofs.power_up.Reads as power-up-reads
 use Rattle.device.proofs.frame.Reads as frame-reads
 use Rattle.device.proofs.work.Reads as work-reads
 use Rattle.counters.specs.Compared.{Alike}
-use Rattle.orders.specs.Orders.{allCalled, answers, lastLeft}
+use Rattle.orders.specs.Orders.{allCalled, allLeft, lastLeft}
 use Rattle.orders.specs.Ledger.{Ledger, ledger, opened, isDoing}
 use Rattle.orders.specs.InStep.{InStep}
 use Rattle.orders.proofs.Orders.{last-called}
@@ -45,14 +45,14 @@ functions-leave (Work quota) d r c =
     ∙ ap₂ (λ (a : Answer) (i : List ℕ). leaving a [] i) (sym (c .contract .0)) (sym (c .contract .1)) ∙ c .left
 
 -- so a run leaves what they say, call by call: numbers, steps, outputs, images and states
-pub functions-run : (calls : List Call) (d : Device) (lefts : List After) → Ran calls d lefts → answers calls d ≡ lefts
-unfolding answers Ran
+pub functions-run : (calls : List Call) (d : Device) (lefts : List After) → Ran calls d lefts → allLeft calls d ≡ lefts
+unfolding allLeft Ran
 functions-run [] d [] ran = refl
 functions-run [] d (left ∷ lefts) ran = absurd ran
 functions-run (call ∷ more) d [] ran = absurd ran
 functions-run (call ∷ more) d (left ∷ lefts) (did, ran) =
     let one = functions-leave call d left did in
-    ap (λ (r : After). r ∷ answers more (r .device)) one ∙ ap (λ (rs : List After). left ∷ rs) (functions-run more (left .device) lefts ran)
+    ap (λ (r : After). r ∷ allLeft more (r .device)) one ∙ ap (λ (rs : List After). left ∷ rs) (functions-run more (left .device) lefts ran)
 
 -- A run of the functions: power up on an accepted image, then any calls, each handed what the one before it left.
 module _ (calls : List Call) (d : Device) (accepted : refusal (d .image) ≡ 0) (lefts : List After) (ran : Ran (PowerUp ∷ calls) d lefts) where

@@ -34,7 +34,7 @@ use Rattle.counters.specs.Compared.{counterIn, Alike}
 use Rattle.rules.specs.Formed.{Formed}
 use Rattle.counters.specs.Reordering.{ownFrames, allWhole, ownStatuses}
 use Rattle.counters.proofs.CountersApart.{same-counter, same-session, same-statuses}
-use Rattle.orders.specs.Orders.{allCalled, answers, lastLeft}
+use Rattle.orders.specs.Orders.{allCalled, allLeft, lastLeft}
 use Rattle.orders.specs.Ledger.{Ledger, isDoing, ledger, opened}
 use Rattle.orders.specs.InStep.{InStep}
 use Rattle.orders.specs.Schedules.{NoRestart, framesTaken, finals}
@@ -49,8 +49,8 @@ use Rattle.orders.proofs.ItEnds as ItEnds
 use Rattle.checks.specs.Checks.{checksOf}
 use Rattle.host.specs.Frames.{newSessionKey, rootKeyFrame, sessionKeyFrame, incrementFrame, requestFrame}
 use Rattle.host.specs.Reading.{GoodReply}
-use Rattle.exchange.specs.Built.{Built, frameOf, Sized, InOrder, RootUnset, CounterSet, Awaited, Agreed, Paired, InSession}
-use Rattle.exchange.specs.Exchange.{Idle, Ends, readFrom, ReadsGood}
+use Rattle.exchange.specs.Built.{HostFrame, frameOf, Sized, CounterInOrder, RootUnset, CounterSet, Awaited, Agreed, Paired, InSession}
+use Rattle.exchange.specs.Exchange.{AtRest, Ends, readFrom, ReadsGood}
 use Rattle.exchange.proofs.Arrives as Arrives
 use Rattle.exchange.proofs.Carried as Carried
 use Rattle.exchange.proofs.Comes as Comes
@@ -146,7 +146,7 @@ module _ (image : List ℕ) (accepted : refusal image ≡ 0) (calls : List Call)
 pub functions-leave : (call : Call) (d : Device) (r : After) → Did call d r → after call d ≡ r
 functions-leave = Functions.functions-leave
 
-pub functions-run : (calls : List Call) (d : Device) (lefts : List After) → Ran calls d lefts → answers calls d ≡ lefts
+pub functions-run : (calls : List Call) (d : Device) (lefts : List After) → Ran calls d lefts → allLeft calls d ≡ lefts
 functions-run = Functions.functions-run
 
 -- So the functions keep what is promised of an order of calls. Of a run that powers up on an accepted image, `e` is the device that it
@@ -211,55 +211,55 @@ work-adds m n d accepted = (Adds.work-adds m n d accepted, Adds.steps-add m n d 
 -- Both ends. A frame that a host builds passes checks 1 to 3 of any device, 4 to 7 if its counter is in order and awaits it, and all ten if
 -- the keys, and of an increment the value, are the device's.
 pub built-in-form :
-    (b : Built) (counter : ℕ) → Sized b → (counters : ℕ) (slot : Slot) (hasKey : Bool) →
+    (b : HostFrame) (counter : ℕ) → Sized b → (counters : ℕ) (slot : Slot) (hasKey : Bool) →
     firstFailing (take 3 (checksOf (frameOf counter b) counters slot hasKey)) ≡ 0
 built-in-form = Arrives.built-in-form
 
 pub built-arrives :
-    (b : Built) (counter : ℕ) (o : Outcome) → Sized b → InOrder o counter → Awaited o counter b →
+    (b : HostFrame) (counter : ℕ) (o : Outcome) → Sized b → CounterInOrder o counter → Awaited o counter b →
     statusOnArrival (o .image) (o .keys) (frameOf counter b) ≡ 0
 built-arrives = Arrives.built-arrives
 
 pub built-passes :
-    (o : Outcome) (counter : ℕ) (b : Built) → Sized b → InOrder o counter → Awaited o counter b → Agreed o counter b →
+    (o : Outcome) (counter : ℕ) (b : HostFrame) → Sized b → CounterInOrder o counter → Awaited o counter b → Agreed o counter b →
     allChecks o (frameOf counter b) ≡ 0
 built-passes = Carried.built-passes
 
 -- An idle device takes a frame, and work calls leave it idle again, of which there are always some.
 pub work-that-ends :
-    (d : Device) → Idle d → (frame : List ℕ) → FrameOf CommandFrame frame → (output : List ℕ) →
+    (d : Device) → AtRest d → (frame : List ℕ) → FrameOf CommandFrame frame → (output : List ℕ) →
     Ends frame d (called (Work longest) (called (Frame frame output) d))
 work-that-ends d idle frame command = Comes.work-that-ends d idle frame (class-by-numbers CommandFrame frame command)
 
 -- A built frame, then. Type 00: the root key in use is the one sent.
 pub root-key-in-use :
-    (counter : ℕ) (key : List ℕ) → length key ≡ 32 → Bytes key → (key ≡ replicate 32 255 → ⊥) → (d e : Device) → Idle d →
-    InOrder (outcome d) counter → RootUnset (outcome d) counter → Ends (rootKeyFrame counter key) d e →
+    (counter : ℕ) (key : List ℕ) → length key ≡ 32 → Bytes key → (key ≡ replicate 32 255 → ⊥) → (d e : Device) → AtRest d →
+    CounterInOrder (outcome d) counter → RootUnset (outcome d) counter → Ends (rootKeyFrame counter key) d e →
     Paired (outcome e) counter key (pick (isSet (slotOf (d .image) counter .«counter_state»)) (slotOf (d .image) counter .value) 0)
 root-key-in-use = BothEnds.root-key-in-use
 
 -- Type 01: the device's session key is the host's.
 pub session-key-shared :
-    (counter : ℕ) (root keyData : List ℕ) → length keyData ≡ 4 → (d e : Device) → Idle d → InOrder (outcome d) counter →
+    (counter : ℕ) (root keyData : List ℕ) → length keyData ≡ 4 → (d e : Device) → AtRest d → CounterInOrder (outcome d) counter →
     CounterSet (outcome d) counter → rootKey (d .image) counter ≡ root → Ends (sessionKeyFrame counter root keyData) d e →
     InSession (outcome e) counter (newSessionKey root keyData) (slotOf (d .image) counter .value)
 session-key-shared = BothEnds.session-key-shared
 
 -- Type 02: the value is the next one. Type 03: a read of 49 bytes is read as good, with the device's value.
 pub value-counted :
-    (counter : ℕ) (key : List ℕ) (value : ℕ) (d e : Device) → Idle d → InSession (outcome d) counter key value → value < 0xFFFFFFFF →
+    (counter : ℕ) (key : List ℕ) (value : ℕ) (d e : Device) → AtRest d → InSession (outcome d) counter key value → value < 0xFFFFFFFF →
     Ends (incrementFrame counter key (bytesOf value)) d e → InSession (outcome e) counter key (suc value)
 value-counted = BothEnds.value-counted
 
 pub request-answered :
-    (counter : ℕ) (key tag : List ℕ) → length tag ≡ 12 → (value : ℕ) (d e : Device) → Idle d → InSession (outcome d) counter key value →
+    (counter : ℕ) (key tag : List ℕ) → length tag ≡ 12 → (value : ℕ) (d e : Device) → AtRest d → InSession (outcome d) counter key value →
     Ends (requestFrame counter key tag) d e → (dummy : ℕ) (buffer : List ℕ) → length buffer ≡ 49 →
     ReadsGood key tag (readFrom e dummy buffer) value
 request-answered = BothEnds.request-answered
 
 -- Chained: an unset counter is paired, a session opened, a value asked for; the reply is read as good, and the value is 0.
 pub both-ends :
-    (d paired opened asked : Device) (counter : ℕ) (root keyData tag : List ℕ) → Idle d → InOrder (outcome d) counter →
+    (d paired opened asked : Device) (counter : ℕ) (root keyData tag : List ℕ) → AtRest d → CounterInOrder (outcome d) counter →
     RootUnset (outcome d) counter → isSet (slotOf (d .image) counter .«counter_state») ≡ false → length root ≡ 32 → Bytes root →
     (root ≡ replicate 32 255 → ⊥) → length keyData ≡ 4 → length tag ≡ 12 → Ends (rootKeyFrame counter root) d paired →
     Ends (sessionKeyFrame counter root keyData) paired opened → Ends (requestFrame counter (newSessionKey root keyData) tag) opened asked →
