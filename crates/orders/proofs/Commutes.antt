@@ -20,7 +20,7 @@ use Rattle.counters.proofs.InARow.{statuses-append}
 use Rattle.counters.proofs.CountersApart.{header-all, same-counter, same-session, same-statuses}
 use Rattle.orders.specs.Orders.{allCalled}
 use Rattle.orders.specs.Ledger.{Pending, None, Doing, Ledger, isDoing, entered, ledger, opened}
-use Rattle.orders.specs.Schedules.{NoRestart, underWay, framesTaken, frameEnded, finals}
+use Rattle.orders.specs.Schedules.{NoRestart, framesUnderWay, framesTaken, frameEnded, finals}
 use Rattle.orders.proofs.Sound.{Resting, Sound}
 use Rattle.orders.proofs.Calls.{formed-as-if}
 use Rattle.orders.proofs.Ledger.{busy-as-pending, next, all-sound, at-rest, sound-now}
@@ -43,11 +43,11 @@ finals-whole c (call ∷ more) l d sound (one, on) =
     ∙ sym (statuses-append c (frameEnded call l) (framesEnded more after) (l .asIf))
 
 -- no frame is under way in an idle device
-none-under-way : (p : Pending) → isDoing p ≡ false → underWay p ≡ []
+none-under-way : (p : Pending) → isDoing p ≡ false → framesUnderWay p ≡ []
 none-under-way None e = refl
 none-under-way (Doing frame done) e = absurd (never (sym e))
 
-quiet-pending : (l : Ledger) (d : Device) → Sound l d → isBusy d ≡ false → underWay (l .pending) ≡ []
+quiet-pending : (l : Ledger) (d : Device) → Sound l d → isBusy d ≡ false → framesUnderWay (l .pending) ≡ []
 quiet-pending l d sound quiet =
     none-under-way (l .pending) (sym (busy-as-pending (l .pending) (l .asIf) d (sound .state)) ∙ quiet)
 

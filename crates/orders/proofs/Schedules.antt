@@ -16,7 +16,7 @@ use Rattle.device.specs.Calls.{Call, PowerUp, Frame, Work}
 use Rattle.counters.specs.Reordering.{belongs, allWhole, ownStatuses}
 use Rattle.counters.proofs.InARow.{whole-append}
 use Rattle.orders.specs.Ledger.{Pending, None, Doing, Ledger, entry, isDoing, enabling, going, taken, worked, cut, heard, entered, ledger}
-use Rattle.orders.specs.Schedules.{resets, restarts, NoRestart, underWay, takenWhere, takenFrom, frameTaken, framesTaken, frameServed, endedWhere, frameEnded, shownFor}
+use Rattle.orders.specs.Schedules.{resets, restarts, NoRestart, framesUnderWay, takenWhere, takenFrom, frameTaken, framesTaken, frameServed, endedWhere, frameEnded, shownFor}
 
 -- the frames that end along an order
 unfoldable pub framesEnded : List Call → Ledger → List (List ℕ)
@@ -26,7 +26,7 @@ framesEnded (call ∷ more) l = frameEnded call l ++ framesEnded more (entered c
 -- from one ledger to another: a frame that was under way or is taken ends or is under way, one that ends has run whole, and a status
 -- shown at its end is its own
 pub record Goes (taken served : List (List ℕ)) (before after : Ledger) : Type 0 where
-  pub frames : underWay (before .pending) ++ taken ≡ endedWhere (after .pending) served ++ underWay (after .pending)
+  pub frames : framesUnderWay (before .pending) ++ taken ≡ endedWhere (after .pending) served ++ framesUnderWay (after .pending)
   pub whole-ones : after .asIf ≡ allWhole (endedWhere (after .pending) served) (before .asIf)
   pub shown :
       (c status : ℕ) → (isDoing (after .pending) ≡ false → status ≡ after .asIf .status) →
@@ -42,7 +42,7 @@ goes-by (Doing frame done) o b e = record { frames = refl; whole-ones = refl; sh
 module _ (frame : List ℕ) (done : ℕ) (o : Outcome) where
   abbrev Served : Ledger → Type 0
   Served after =
-      ((frame ∷ []) ≡ endedWhere (after .pending) (frame ∷ []) ++ underWay (after .pending))
+      ((frame ∷ []) ≡ endedWhere (after .pending) (frame ∷ []) ++ framesUnderWay (after .pending))
       × (after .asIf ≡ allWhole (endedWhere (after .pending) (frame ∷ [])) o)
       × ((c status : ℕ) → (isDoing (after .pending) ≡ false → status ≡ after .asIf .status) →
       shownFor c (endedWhere (after .pending) (frame ∷ [])) status ≡ ownStatuses c (endedWhere (after .pending) (frame ∷ [])) o)
@@ -61,7 +61,7 @@ taken-goes None frame o b =
     record { frames = s .0; whole-ones = s .1; shown = s .2 }
 taken-goes (Doing other done) frame o b = goes-by (Doing other done) o b false
 
-worked-goes : (p : Pending) (quota : ℕ) (o : Outcome) (b : Bool) → Goes [] (underWay p) (entry o p b) (worked p quota o b)
+worked-goes : (p : Pending) (quota : ℕ) (o : Outcome) (b : Bool) → Goes [] (framesUnderWay p) (entry o p b) (worked p quota o b)
 worked-goes None quota o b = goes-by None o b b
 worked-goes (Doing frame done) quota o b =
     let s = served frame (quota + done) o b in
@@ -88,17 +88,17 @@ goes (Work quota) l on = worked-goes (l .pending) quota (l .asIf) (l .enabled)
 -- an order of calls: the frames taken are those that end, but for one under way
 pub all-end :
     (calls : List Call) (l : Ledger) → NoRestart calls l →
-    underWay (l .pending) ++ framesTaken calls l ≡ framesEnded calls l ++ underWay (ledger calls l .pending)
+    framesUnderWay (l .pending) ++ framesTaken calls l ≡ framesEnded calls l ++ framesUnderWay (ledger calls l .pending)
 unfolding NoRestart framesTaken framesEnded ledger
 all-end [] l on = nothing-more (l .pending)
   where
-    nothing-more : (p : Pending) → underWay p ++ [] ≡ [] ++ underWay p
+    nothing-more : (p : Pending) → framesUnderWay p ++ [] ≡ [] ++ framesUnderWay p
     nothing-more None = refl
     nothing-more (Doing frame done) = refl
 all-end (call ∷ more) l (one, on) =
-    let before = underWay (l .pending) in
-    let between = underWay (entered call l .pending) in
-    let after = underWay (ledger more (entered call l) .pending) in
+    let before = framesUnderWay (l .pending) in
+    let between = framesUnderWay (entered call l .pending) in
+    let after = framesUnderWay (ledger more (entered call l) .pending) in
     sym (append-assoc before (frameTaken call l) (framesTaken more (entered call l)))
     ∙ ap (λ (fs : List (List ℕ)). fs ++ framesTaken more (entered call l)) (goes call l one .frames)
     ∙ append-assoc (frameEnded call l) between (framesTaken more (entered call l))

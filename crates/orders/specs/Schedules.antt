@@ -34,9 +34,9 @@ NoRestart [] l = Unit {0}
 NoRestart (call ∷ more) l = (restarts call l ≡ false) × NoRestart more (entered call l)
 
 -- the frame under way, if any
-abbrev pub underWay : Pending → List (List ℕ)
-underWay None = []
-underWay (Doing frame done) = frame ∷ []
+abbrev pub framesUnderWay : Pending → List (List ℕ)
+framesUnderWay None = []
+framesUnderWay (Doing frame done) = frame ∷ []
 
 -- a command frame is taken where none is under way
 abbrev pub takenWhere : Pending → List ℕ → List (List ℕ)
@@ -66,7 +66,7 @@ framesTaken (call ∷ more) l = frameTaken call l ++ framesTaken more (entered c
 abbrev pub frameServed : Call → Ledger → List (List ℕ)
 frameServed PowerUp l = []
 frameServed (Frame bytes output) l = takenFrom (classOf bytes) bytes l
-frameServed (Work quota) l = underWay (l .pending)
+frameServed (Work quota) l = framesUnderWay (l .pending)
 
 -- it has its last step with this call where none is under way afterwards
 abbrev pub endedWhere : Pending → List (List ℕ) → List (List ℕ)
