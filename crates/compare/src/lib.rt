@@ -1,6 +1,9 @@
 // The comparison of secrets: it looks at every byte, whatever it finds, and only then says yes or no.
 //
 // Which bytes differ, and how many, picks no branch and no index; lengths are not secret.
+
+#![tactic(auto)]
+
 ghost use Rattle.std.specs.Prelude.{◌≡◌, length};
 ghost use Rattle.compare.specs.Compare.{same_bytes, differences};
 

@@ -1,6 +1,9 @@
 // Words and bytes: a word is four bytes, high byte first, everywhere in this project; and bytes that are copied in a row.
 //
 // Contracts cite specs/Words.antt, and specs/Table.antt for lists that are filled place by place.
+
+#![tactic(auto)]
+
 ghost use Rattle.std.specs.Prelude.{◌≡◌, ◌+◌, ◌<◌, ◌≤◌, length, get_or};
 ghost use Rattle.std.proofs.lemmas.List.Edits.{sets};
 ghost use Rattle.words.specs.Table.{field};
