@@ -1,6 +1,9 @@
 // A command frame that arrives while the device is idle: checks 1 to 7, and the job that then runs. No step is done here.
 //
 // Contracts cite specs/, document 01's section "A taken OP1 frame".
+
+#![tactic(auto)]
+
 ghost use Rattle.std.specs.Prelude.{◌≡◌};
 ghost use Rattle.words.specs.Table.{field};
 ghost use Rattle.arrival.specs.Arrival.{job_of, taken, arrived};

@@ -1,6 +1,9 @@
 // What a taken OP1 frame meets on arrival: checks 1 to 7.
 //
 // Contracts cite specs/, document 01's list as a table. A status of 0 says that no check failed.
+
+#![tactic(auto)]
+
 ghost use Rattle.std.specs.Prelude.{◌≡◌, ◌≤◌, drop};
 ghost use Rattle.words.specs.Rows.{first_failing};
 ghost use Rattle.frames.specs.Layout.{layout_of};

@@ -2,6 +2,9 @@
 //
 // The digest is secret until it is compared, and compared at every word, whatever is found: which words differ picks no branch
 // and no index. A status of 0 says that no check failed.
+
+#![tactic(auto)]
+
 ghost use Rattle.std.specs.Prelude.{◌≡◌, false, ◌+◌, ◌≤◌};
 ghost use Rattle.words.specs.Words.{words_of, word_or0};
 ghost use Rattle.words.specs.Choice.{or_else};

@@ -2,6 +2,9 @@
 //
 // Each call takes any image, state, frame, buffer and quota, and its contract fixes the answer, the state and every lent byte.
 // The image is lent to a frame call for reading alone: no frame stores a word, only steps do.
+
+#![tactic(auto)]
+
 ghost use Rattle.std.specs.Prelude.{◌≡◌, ltb, false, []};
 ghost use Rattle.words.specs.Choice.{pick};
 ghost use Rattle.state.specs.Refusal.{is_running};
@@ -16,7 +19,7 @@ use state::State;
 const DONE: u32 = 0;
 
 // The answer of a call: its number, 0 if it is done, else the refusal's; the steps done; the state afterwards.
-#[derive(Drop)]
+#[derive(Clone, Copy)]
 pub struct Answer {
     pub number: u32,
     pub steps: u32,

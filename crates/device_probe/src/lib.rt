@@ -1,4 +1,7 @@
 // C entries for tests and benchmarks of the device, and for nothing else. A state goes in and out as its 383 bytes.
+
+#![tactic(auto)]
+
 ghost use Rattle.std.specs.Prelude.{◌≡◌, [], ◌∷◌};
 ghost use Rattle.packed.specs.Packed.{packed};
 ghost use Rattle.packed.specs.Unpacked.{unpacked};

@@ -1,12 +1,15 @@
 // The frames by their first byte: what a frame is, before anything of the device is looked at.
 //
 // Contracts cite specs/, document 01's section "Frames by first byte". What a read hands out is here too.
+
+#![tactic(auto)]
+
 ghost use Rattle.std.specs.Prelude.{◌≡◌, length};
 ghost use Rattle.frames.specs.Classes.{named_class, class_of};
 ghost use Rattle.frames.specs.Reading.{read_byte, read_output};
 
 // What a frame is. A 9Bh alone is among the unnamed: like them it does nothing but clear reset-enable.
-#[derive(Drop)]
+#[derive(Clone, Copy)]
 pub enum Class {
     Empty,
     EnableReset,
@@ -58,7 +61,7 @@ pub fn class_of(frame: &[u8]) -> Class
 }
 
 // The reply of a request, or that there is none; its bytes are then zeros.
-#[derive(Drop)]
+#[derive(Clone, Copy)]
 pub struct Reply {
     pub there: bool,
     pub bytes: [u8; 48],

@@ -2,13 +2,16 @@
 //
 // Contracts cite specs/: Padding and Sha256 are FIPS 180-4, for messages of any length, and Answer is document 01's answer.
 // The parts, a last block and a digest, are for the crates that hash block by block.
+
+#![tactic(auto)]
+
 ghost use Rattle.std.specs.Prelude.{◌≡◌, ◌≤◌, ◌-◌, ◌++◌, length, take, replicate};
 ghost use Rattle.words.specs.Words.{words_of, bytes_of_all};
 ghost use Rattle.hash.specs.Padding.{last_block};
 ghost use Rattle.hash.specs.Answer.{done, refused, hash_answer};
 
 // An answer with a digest by value: number 0 if done; if refused the refusal's number, and a digest of zeros.
-#[derive(Drop)]
+#[derive(Clone, Copy)]
 pub struct Answer {
     pub number: u32,
     pub digest: [u8; 32],

@@ -1,4 +1,7 @@
 // Bytes as hexadecimal digits, upper case, the high digit first, and back. Contracts cite specs/Hex.antt.
+
+#![tactic(auto)]
+
 ghost use Rattle.std.specs.Prelude.{◌≡◌, ◌+◌, ◌*◌, ◌/◌, ◌<◌, ◌≤◌, true, ◌++◌, length, drop};
 ghost use Rattle.words.specs.Table.{table};
 ghost use Rattle.words.specs.Words.{with_front};

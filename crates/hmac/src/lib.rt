@@ -2,6 +2,9 @@
 //
 // It takes four blocks, the quarters: two for the inner hash and two for the outer. The whole call runs the four in turn, and
 // a device that does a block a step runs the same four. Contracts cite specs/: Hmac is FIPS 198-1, Quarters the four blocks.
+
+#![tactic(auto)]
+
 ghost use Rattle.std.specs.Prelude.{◌≡◌, length};
 ghost use Rattle.words.specs.Words.{bytes_of_all};
 ghost use Rattle.hmac.specs.Quarters.{key_block, text_block, block_of, start_of, chain_after};
@@ -10,7 +13,7 @@ ghost use Rattle.hmac.specs.Answer.{hmac_answer};
 use hash::Answer;
 
 // The four blocks of an HMAC, in their order.
-#[derive(Drop)]
+#[derive(Clone, Copy)]
 pub enum Quarter {
     KeyIpad,
     Message,

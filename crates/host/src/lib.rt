@@ -1,6 +1,9 @@
 // The host end: building the four OP1 frames and reading a reply, on numbers and byte slices.
 //
 // Contracts cite specs/. A refused call leaves the output as found; what is built fills its front, and the rest stays.
+
+#![tactic(auto)]
+
 ghost use Rattle.std.specs.Prelude.{◌≡◌, ◌+◌, ◌≤◌, ◌++◌, length};
 ghost use Rattle.words.specs.Words.{with_front};
 ghost use Rattle.hmac.specs.Hmac.{HMAC};
@@ -144,7 +147,7 @@ pub fn build_root_key(counter: u32, key: &[u8], out: &mut [u8]) -> u32
 }
 
 // What a host reads in a reply.
-#[derive(Drop)]
+#[derive(Clone, Copy)]
 pub enum Verdict {
     Refused(u32),
     Busy,

@@ -1,4 +1,7 @@
 // The counter image: its header, refusals 1 to 3, and its slots. Contracts cite specs/, in document 01's words.
+
+#![tactic(auto)]
+
 ghost use Rattle.std.specs.Prelude.{◌≡◌, ◌<◌, ◌≤◌, ◌^◌, drop};
 ghost use Rattle.words.specs.Rows.{first_failing};
 ghost use Rattle.image.specs.Header.{count, slot_at};
@@ -6,7 +9,7 @@ ghost use Rattle.image.specs.Refusal.{is_size, refusals, refusal};
 ghost use Rattle.image.specs.Slot.{slot_of, is_state, is_bad, root_key};
 
 // The three words of a slot that are no key.
-#[derive(Drop)]
+#[derive(Clone, Copy)]
 pub struct Slot {
     pub root_state: u32,
     pub counter_state: u32,

@@ -1,12 +1,15 @@
 // The kinds of job, how long each runs, and the commands that they carry out.
 //
 // Contracts cite specs/, document 01's section "Steps".
+
+#![tactic(auto)]
+
 ghost use Rattle.std.specs.Prelude.{◌≡◌};
 ghost use Rattle.jobs.specs.Jobs.{length_of, command_of, signature_steps, hash_steps, root_kind, kind_of};
 
 // The kinds of job: four of root key frames, by the key (a root key, or the temporary one, which is all FFh and is not stored) and
 // by whether the counter is set with it; then a session key, an increment, a request.
-#[derive(Drop)]
+#[derive(Clone, Copy)]
 pub enum Kind {
     RootKeyAndCounter,
     RootKey,
@@ -18,7 +21,7 @@ pub enum Kind {
 }
 
 // The four commands, types 00 to 03.
-#[derive(Drop)]
+#[derive(Clone, Copy)]
 pub enum Command {
     WriteRootKey,
     UpdateSessionKey,

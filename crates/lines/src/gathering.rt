@@ -5,7 +5,7 @@ ghost use Rattle.text.specs.Printing.{Prints};
 ghost use Rattle.lines.specs.Feeding.{before_newline, keeping_all};
 
 // What gathering bytes comes to: how many stand before the first newline, and how many bytes of the line are kept.
-#[derive(Drop)]
+#[derive(Clone, Copy)]
 pub struct Gathered {
     pub before: usize,
     pub kept: usize,

@@ -2,6 +2,9 @@
 // into them.
 //
 // Contracts cite specs/. A line is taken without its newline. What is printed fills the front of the output, and the rest stays.
+
+#![tactic(auto)]
+
 mod gathering;
 
 ghost use Rattle.std.specs.Prelude.{◌≡◌, ◌≤◌, min, length, take, replicate};
@@ -17,7 +20,7 @@ use gathering::{at_most, gather};
 use state::State;
 
 // What a turn leaves: how many bytes of the output are printed, and the state afterwards.
-#[derive(Drop)]
+#[derive(Clone, Copy)]
 pub struct Turned {
     pub length: usize,
     pub state: State,
@@ -25,7 +28,7 @@ pub struct Turned {
 
 // What hearing bytes comes to: how many were used, how many of the next line are kept, how many bytes of the output are printed,
 // and the state afterwards.
-#[derive(Drop)]
+#[derive(Clone, Copy)]
 pub struct Heard {
     pub used: usize,
     pub kept: usize,

@@ -1,6 +1,9 @@
 // The state of the device as 383 bytes, and back. For tests only: so C programs hand states in and out.
 //
 // Contracts cite specs/: Unpacked says what bytes stand for, Packed which bytes a state becomes.
+
+#![tactic(auto)]
+
 mod reading;
 mod storing;
 

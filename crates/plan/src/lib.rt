@@ -2,6 +2,9 @@
 // word of the image is written.
 //
 // Contracts cite specs/: a list of stores for each kind of job, in document 01's order.
+
+#![tactic(auto)]
+
 ghost use Rattle.std.specs.Prelude.{◌≡◌, ◌<◌, ◌++◌, get_or};
 ghost use Rattle.plan.specs.Stores.{key_store, counter_stores, root_stores, increment_stores, no_store, store_of};
 ghost use Rattle.plan.specs.Storing.{stored};
@@ -9,7 +12,7 @@ ghost use Rattle.plan.specs.Storing.{stored};
 use jobs::Kind;
 
 // One aligned word stored: its place in the slot, and the word.
-#[derive(Drop)]
+#[derive(Clone, Copy)]
 pub struct Store {
     pub at: u8,
     pub word: u32,

@@ -1,6 +1,9 @@
 // C entries for tests and benchmarks of the hash, and for nothing else: what a driver links is another library.
 //
 // Each hands over the whole answer of one call, so that C sees the digest of a refused call too.
+
+#![tactic(auto)]
+
 ghost use Rattle.std.specs.Prelude.{◌≡◌};
 ghost use Rattle.sha256.specs.Block.{block};
 ghost use Rattle.hash.specs.Answer.{hash_answer};

@@ -1,6 +1,9 @@
 // C entries of the host end: building the four OP1 frames, the session key, and reading a reply.
 //
 // Each is one call of the host's library, on numbers and byte slices. include/rpmc_host.h says it to C programmers.
+
+#![tactic(auto)]
+
 ghost use Rattle.std.specs.Prelude.{◌≡◌};
 ghost use Rattle.host.specs.Building.{Answers, built_root_key, built_session_key, built_increment, built_request, derived_key};
 ghost use Rattle.host.specs.Reading.{read_reply, number_of, part_of, part_start, further};

@@ -2,6 +2,9 @@
 // read.
 //
 // It only reads and writes here. What bytes do and what is printed is made by proved functions on slices, in crates/lines.
+
+#![tactic(auto)]
+
 ghost use Rattle.std.specs.Prelude.{◌≤◌, ◌≡◌, true, length};
 ghost use Rattle.lines.specs.Feeding.{under_way, feed};
 

@@ -2,6 +2,9 @@
 //
 // Contracts cite specs/, in the standard's names and order. Words and rounds are done in straight groups of eight: after eight
 // rounds each working variable stands at its own place again and none has to be moved, and the words stay in registers.
+
+#![tactic(auto)]
+
 mod constants;
 mod functions;
 

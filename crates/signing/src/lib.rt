@@ -1,6 +1,9 @@
 // The hash steps of a job: which key and which message its HMAC is of, and the block that a step hashes.
 //
 // Contracts cite specs/, document 01's table of signatures. How an HMAC is made of blocks is `hmac`'s.
+
+#![tactic(auto)]
+
 ghost use Rattle.std.specs.Prelude.{◌≡◌, ◌≤◌, ◌++◌};
 ghost use Rattle.words.specs.Words.{bytes_of};
 ghost use Rattle.words.specs.Table.{field};

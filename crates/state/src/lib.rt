@@ -1,6 +1,9 @@
 // The state of the device, a struct by value, and refusal 4.
 //
 // A caller may hand in any state that the types allow. What is not there has one form: zeros, so that a state is determined.
+
+#![tactic(auto)]
+
 ghost use Rattle.std.specs.Prelude.{◌≡◌, get_or};
 ghost use Rattle.state.specs.Parts.{no_key, no_reply, no_job, power_on, session_key, posted};
 ghost use Rattle.state.specs.Refusal.{is_running, job_refusal, device_refusal};
@@ -9,7 +12,7 @@ use frames::Reply;
 use jobs::Kind;
 
 // A session key, or that there is none.
-#[derive(Drop)]
+#[derive(Clone, Copy)]
 pub struct Key {
     pub there: bool,
     pub bytes: [u8; 32],
@@ -18,7 +21,7 @@ pub struct Key {
 // The job, or that there is none: its kind and counter, the number of steps done, and what it keeps: the frame, with zeros
 // behind it, the root key in use on arrival, the session key that it made, the chaining words of the inner digest, and the
 // word to store or to report.
-#[derive(Drop)]
+#[derive(Clone, Copy)]
 pub struct Job {
     pub there: bool,
     pub kind: Kind,
@@ -33,7 +36,7 @@ pub struct Job {
 
 // The state: the status, the session keys by counter, the reply, reset-enable, the chaining words of the last hash step, and
 // the job.
-#[derive(Drop)]
+#[derive(Clone, Copy)]
 pub struct State {
     pub status: u8,
     pub keys: [Key; 4],

@@ -1,6 +1,9 @@
 // One step of a job: one SHA-256 block, or one aligned image word stored. The last step posts the status.
 //
 // Contracts cite specs/, document 01's section "Steps".
+
+#![tactic(auto)]
+
 ghost use Rattle.std.specs.Prelude.{◌≡◌, ◌+◌, ◌<◌, ◌≤◌, ◌++◌, slice_set};
 ghost use Rattle.words.specs.Words.{bytes_of, bytes_of_all};
 ghost use Rattle.words.specs.Table.{field};

@@ -1,6 +1,9 @@
 // The texts of rpmcrun's lines: the number that a line gives, and each line that is printed, at the front of the output.
 //
 // Contracts cite specs/. Each function takes any input: its output has room for the longest line, 517 characters.
+
+#![tactic(auto)]
+
 ghost use Rattle.std.specs.Prelude.{◌≡◌, ◌+◌, ◌*◌, ◌%◌, ◌≤◌, [], ◌∷◌, ◌++◌, length};
 ghost use Rattle.hexadecimal.specs.Hex.{digits_of_all};
 ghost use Rattle.text.specs.Numbers.{value_of, with_digit, number_in};
