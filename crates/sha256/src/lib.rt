@@ -12,7 +12,7 @@ ghost use Rattle.std.specs.Prelude.{◌≡◌, ◌+◌, ◌<◌, ◌≤◌, ◌+
 ghost use Rattle.sha256.specs.Constants.{K, H⁰};
 ghost use Rattle.sha256.specs.Block.{next_w, with_next, extended, T₁, T₂, round, rounds, sums, block};
 
-use constants::{H0, K};
+use constants::H0;
 use functions::{big_sigma0, big_sigma1, ch, maj, small_sigma0, small_sigma1, sum2, sum4, sum5};
 
 // The initial hash value.
@@ -130,7 +130,7 @@ fn eight_rounds(v: [u32; 8], k: &[u32; 64], w: &[u32; 64], t: usize) -> [u32; 8]
 fn all_rounds(h: [u32; 8], w: &[u32; 64]) -> [u32; 8]
     ensures { result ≡ rounds w.now 0 64 h }
 {
-    let k = K;
+    let k = constants::K;
     let mut v = h;
     let mut t = 0;
     while t < 64 {
