@@ -14,7 +14,7 @@ import tempfile
 sys.dont_write_bytecode = True  # nothing is written beside the sources
 sys.path[0] = str(pathlib.Path(__file__).resolve().parents[1])  # modules are named from tests/ on
 from gate.listed import GATE, ON_DEMAND, crates, edits  # noqa: E402
-from gate.room import apply  # noqa: E402
+from gate.room import PARTS, apply  # noqa: E402
 from shared.tally import Failed, Tally  # noqa: E402
 
 ROOT = pathlib.Path(__file__).resolve().parents[2]
@@ -79,15 +79,19 @@ def paths():
 
 def fit():
     """Each edit can be made: its texts stand in their files, and once."""
-    found = edits(ROOT, GATE) + edits(ROOT, ON_DEMAND)
+    found, failures = edits(ROOT, GATE) + edits(ROOT, ON_DEMAND), []
     with tempfile.TemporaryDirectory() as room:
         for edit in found:
             folder = pathlib.Path(room) / edit.folder / edit.name
-            shutil.copytree(ROOT / "crates" / edit.crate, folder)
+            for part in PARTS:  # and not out/, which rt makes, and which is large
+                if (ROOT / "crates" / edit.crate / part).is_dir():
+                    shutil.copytree(ROOT / "crates" / edit.crate / part, folder / part)
             try:
                 apply(edit, folder)
             except Failed as failure:
-                raise Failed(f"{edit.name}: {failure}") from failure
+                failures.append(f"{edit.name}: {failure}")
+    if failures:
+        raise Failed("\n  ".join(failures))
     return f"{len(found)} of them"
 
 
