@@ -20,14 +20,14 @@ from shared.tally import Failed, Tally  # noqa: E402
 ROOT = pathlib.Path(__file__).resolve().parents[2]
 COLUMN = "One answer"
 PUBLIC = re.compile(r'^pub (?:extern "C" )?fn (\w+)(.*?)^    (?:requires|ensures)\b', re.MULTILINE | re.DOTALL)
-READS = re.compile(r"^use .*\.proofs\.(\w+)\.Reads as ([a-z0-9-]+)$", re.MULTILINE)
-THEOREM = re.compile(r"^([a-z0-9-]+) : One(Result|Lent|Seen) ([a-z0-9-]+)\.Post\b", re.MULTILINE)
+READS = re.compile(r"^use .*\.proofs\.(\w+)\.Reads as ([\w-]+)$", re.MULTILINE)
+THEOREM = re.compile(r"^([\w-]+) : One(Result|Lent|Seen) ([\w-]+)\.Post\b", re.MULTILINE)
 
 
 def theorems_in(cell):
-    """The names in a cell; one that begins with a hyphen goes on from the first."""
-    names = re.findall(r"`([a-z0-9-]+)`", cell)
-    return [names[0] + name if name.startswith("-") else name for name in names]
+    """The names in a cell; one that begins with an underscore goes on from the first."""
+    names = re.findall(r"`([\w-]+)`", cell)
+    return [names[0] + name if name.startswith("_") else name for name in names]
 
 
 def check(code, section, proofs):
@@ -62,8 +62,8 @@ SPOILED = {
     "a function without a row": ("words", 1, r"^\| `word\(.*\n", ""),
     "a row without a function": ("words", 0, r"^pub fn word\(", "fn word("),
     "a function of a module": ("sha256", 0, r"^pub\(crate\) fn ch\(", "pub fn ch("),
-    "a theorem that is not there": ("words", 2, r"^word-one :", "another-one :"),
-    "a theorem of another function": ("words", 2, r"^word-one : OneResult word-reads", "word-one : OneResult bytes-reads"),
+    "a theorem that is not there": ("words", 2, r"^word_one :", "another_one :"),
+    "a theorem of another function": ("words", 2, r"^word_one : OneResult word-reads", "word_one : OneResult bytes-reads"),
     "a buffer without a theorem": ("words", 0, r"^pub fn word\(", "pub fn word(more: &mut u8, "),
     "a result without a theorem": ("host", 0, r"^(pub fn part<.*) -> .*$", r"\1"),
 }
