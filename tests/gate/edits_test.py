@@ -15,41 +15,39 @@ from shared.tally import Failed, Tally  # noqa: E402
 
 CODE = """\
 // Two functions.
-ghost use mathlib.Core.Path.{_≡_};
-ghost use Rattle·small·specs.specs.Small.{same};
+#![tactic(auto)]
+
+ghost use Rattle.std.specs.Prelude.{◌≡◌};
+ghost use Rattle.small.specs.Small.{same};
 
 pub fn echo(x: usize) -> usize
-    ensures { λ r. ⌜ r ≡ same x ⌝ }
+    ensures { result ≡ same x }
 {
     if x == 0 { return x; }
     x
 }
 
 pub fn seven() -> usize
-    ensures { λ r. ⌜ r ≡ 7 ⌝ }
+    ensures { result ≡ 7 }
 {
     7
 }
 """
 PROOF = """\
-use mathlib.Core.Path.{refl}
-use Rattle·small·specs.specs.Small.{same}
-use Rattle·small·proofs.proofs.echo.Statement.{statement}
-use Rattle·small·proofs.proofs.echo.Tie as tie
+use Rattle.std.proofs.Common.{refl}
+use Rattle.small.specs.Small.{same}
+use Rattle.small.proofs.echo.Goals as goal
 
-returns : tie.Need-returns
+pub returns-then-x-eq0 : goal.returns-then-x-eq0
+unfolding same
+returns-then-x-eq0 c = refl
+
+pub returns : goal.returns
 unfolding same
 returns c = refl
-
-returns-2 : tie.Need-returns-2
-unfolding same
-returns-2 c = refl
-
-pub echo-spec : {M : Type 1} → statement M
-echo-spec = tie.close (tie.spec returns returns-2)
 """
 SPEC = """\
-use Prim.Native.Nat.{ℕ}
+use Rattle.std.specs.Prelude.{ℕ}
 
 unfoldable pub same : ℕ → ℕ
 same x = x
@@ -59,7 +57,7 @@ FILES = {
     "crates/small/src/lib.rt": CODE,
     "crates/small/specs/Lib.antt": "pub mod Small\n",
     "crates/small/specs/Small.antt": SPEC,
-    "crates/small/proofs/echo/Proof.antt": PROOF,
+    "crates/small/proofs/echo/Answers.antt": PROOF,
 }
 
 # A wrong version: the text that is replaced, the new one, and what edits.py has to say of it.

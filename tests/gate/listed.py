@@ -28,10 +28,11 @@ class Edit:
 
 
 def crates(root):
-    """The crates of crates.txt in its order, each with the names that it stands on."""
+    """The crates of crates.txt in its order, each with the names that it stands on. A word may stand behind a
+    crate's name, as `staticlib`."""
     lines = (line.split("#")[0] for line in (root / "crates.txt").read_text().splitlines())
     parts = (line.split(":") for line in lines if ":" in line)
-    return {name.strip(): below.split() for name, below in parts}
+    return {name.split()[0]: below.split() for name, below in parts}
 
 
 def edits(root, folder):

@@ -6,7 +6,7 @@ from shared.tally import Failed
 # asked, or not in this order, or names what is not there.
 UNFIT = (
     "that can be named from here",
-    "expected type `tie.Need-",
+    "expected type `goal.",
     "needs a function (or path) type to bind",
     "this λ has",
     "is not in scope",
