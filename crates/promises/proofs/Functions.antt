@@ -14,9 +14,6 @@ use Rattle.state.specs.Parts.{power_on}
 use Rattle.device.specs.declared.Answer.{Answer}
 use Rattle.device.specs.Work.{Device}
 use Rattle.device.specs.Calls.{device, powered_up, After, leaving, after, Call, PowerUp, Frame, Work, outcome, is_busy}
-use Rattle.device.proofs.power_up.Reads as power-up-reads
-use Rattle.device.proofs.frame.Reads as frame-reads
-use Rattle.device.proofs.work.Reads as work-reads
 use Rattle.counters.specs.Compared.{Alike}
 use Rattle.orders.specs.Orders.{all_called, all_left, last_left}
 use Rattle.orders.specs.Ledger.{Ledger, ledger, opened, is_doing}

@@ -1,5 +1,4 @@
 -- `difference` meets its contract: the loop takes the bytes in turn, every one. Assumes nothing.
-use Prim.Native.Nat.{◌-◌}
 use mathlib.Core.Path.{◌≡◌, refl}
 use native.Mathlib.Numerals.{add-one}
 use native.Mathlib.Omega.{arith}

@@ -1,7 +1,7 @@
 -- `work_steps` meets its contract: after each step, the device is the one that the definition runs to, and the steps done
 -- and left are those that were left at first. Assumes nothing.
 use borrow.Author.Tests.{ltb-true}
-use Prim.Native.Nat.{ℕ, ◌-◌, ◌<◌}
+use Prim.Native.Nat.{ℕ, ◌<◌}
 use native.Mathlib.Omega.{arith}
 use mathlib.Core.Path.{◌≡◌, refl, ap, sym, ◌∙◌}
 use mathlib.Core.Bool.{Bool, true, false}

@@ -1,11 +1,10 @@
 -- `fill_read` meets its contract: the loop fills the output from the front. Assumes nothing.
-use Prim.Native.Nat.{◌-◌}
 use native.Mathlib.Omega.{arith}
 use mathlib.Core.Path.{◌≡◌, refl, ◌∙◌}
 use lib.ListN.{length, length-set}
 use Rattle.words.specs.Table.{table}
 use Rattle.words.proofs.Table.{table_more, table-all}
-use Rattle.frames.specs.Reading.{read_byte, read_output}
+use Rattle.frames.specs.Reading.{read_output}
 use Rattle.frames.proofs.fill_read.Goals as goal
 
 pub loop-i-init : goal.loop-i-init

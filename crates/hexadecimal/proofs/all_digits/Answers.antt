@@ -1,5 +1,5 @@
 -- `all_digits` meets its contract: what is passed is digits, so the rest decides. Assumes nothing.
-use Prim.Native.Nat.{◌-◌, ◌≤◌, ◌<◌}
+use Prim.Native.Nat.{◌≤◌, ◌<◌}
 use native.Mathlib.Omega.{arith}
 use mathlib.Core.Path.{refl, sym, ◌∙◌}
 use lib.ListN.{get_or, drop_of_length-le}

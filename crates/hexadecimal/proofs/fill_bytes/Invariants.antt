@@ -1,5 +1,5 @@
 -- What the loop of `fill_bytes` keeps, and that it ends. Assumes nothing.
-use Prim.Native.Nat.{◌+◌, ◌-◌, ◌/◌, ◌≤◌}
+use Prim.Native.Nat.{◌-◌, ◌/◌, ◌≤◌}
 use mathlib.Core.Path.{◌≡◌}
 use mathlib.Core.List.{◌++◌}
 use lib.ListN.{length, drop}

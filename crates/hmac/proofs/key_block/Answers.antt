@@ -1,5 +1,4 @@
 -- `key_block` meets its contract: the loop xors the key into a buffer of the pad. Assumes nothing.
-use Prim.Native.Nat.{◌-◌}
 use native.Mathlib.Omega.{arith}
 use mathlib.Core.Path.{◌≡◌, ap, ◌∙◌}
 use lib.Seq.{take_all}

@@ -1,5 +1,5 @@
 -- `all_rounds` meets its contract: after t rounds the working variables are those of the first t rounds. Assumes nothing.
-use Rattle.std.proofs.Common.{◌≡◌, ◌-◌, refl, ap, ◌∙◌, arith, rules}
+use Rattle.std.proofs.Common.{◌≡◌, refl, ap, ◌∙◌, arith, rules}
 use Rattle.sha256.specs.Constants.{K}
 use Rattle.sha256.specs.Block.{rounds}
 use Rattle.sha256.proofs.Groups.{rounds_on}

@@ -1,6 +1,6 @@
 -- `block` meets its contract: up to word t the array is the schedule; then steps 3 and 4, and step 2, the start, is the chaining
 -- words themselves. Assumes nothing.
-use Rattle.std.proofs.Common.{◌≡◌, ◌-◌, refl, ap, ◌∙◌, arith}
+use Rattle.std.proofs.Common.{◌≡◌, refl, ap, ◌∙◌, arith}
 use Rattle.sha256.specs.Block.{extended, schedule, block}
 use Rattle.sha256.proofs.Groups.{words_on}
 use Rattle.sha256.proofs.block.Goals as goal

@@ -1,5 +1,5 @@
 -- `first_words` meets its contract: the loop copies the words from the front. Assumes nothing.
-use Rattle.std.proofs.Common.{◌≡◌, ◌-◌, ◌∙◌, arith, take_all}
+use Rattle.std.proofs.Common.{◌≡◌, ◌∙◌, arith, take_all}
 use Rattle.words.proofs.Filling.{copy_more}
 use Rattle.sha256.proofs.first_words.Goals as goal
 

@@ -1,5 +1,5 @@
 -- `sums` meets its contract: the loop fills the words from the front with the sums. Assumes nothing.
-use Rattle.std.proofs.Common.{◌≡◌, ℕ, ◌+◌, ◌-◌, ◌%◌, ◌^◌, List, get_or, refl, ◌∙◌, arith}
+use Rattle.std.proofs.Common.{◌≡◌, refl, ◌∙◌, arith}
 use Rattle.words.specs.Table.{table}
 use Rattle.words.proofs.Table.{table_more, table-all}
 use Rattle.sha256.specs.Block.{sums}

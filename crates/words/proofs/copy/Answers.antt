@@ -1,5 +1,4 @@
 -- `copy` meets its contract: the loop fills the buffer from the front. Assumes nothing.
-use Prim.Native.Nat.{◌-◌}
 use native.Mathlib.Omega.{arith}
 use mathlib.Core.Path.{◌≡◌, refl, ◌∙◌}
 use lib.ListN.{length, length-set}

@@ -1,5 +1,4 @@
 -- `place_inside` meets its contract: the loop makes the run of stores longer, byte by byte. Assumes nothing.
-use Prim.Native.Nat.{◌-◌}
 use native.Mathlib.Omega.{arith}
 use mathlib.Core.Path.{◌≡◌, refl, ◌∙◌}
 use lib.ListN.{length, length-set}
@@ -11,12 +10,11 @@ pub loop-i-init : goal.loop-i-init
 loop-i-init c = (omega arith, refl, refl)
 
 pub loop-i-preserved : goal.loop-i-preserved
-loop-i-preserved c =
-    (
-      omega arith,
-      rw c.loop-i.invariant.1 (run_more _ _ _ c.loop-i.i (omega arith)),
-      simp length-set c.loop-i.invariant.2,
-    )
+loop-i-preserved c = (
+  omega arith,
+  rw c.loop-i.invariant.1 (run_more _ _ _ c.loop-i.i (omega arith)),
+  simp length-set c.loop-i.invariant.2,
+)
 
 pub shape_of-out : goal.shape_of-out
 shape_of-out c = c.loop-i.invariant.2

@@ -1,5 +1,4 @@
 -- `gather` meets its contract: the line under way stands at the front of its room at each turn. Assumes nothing.
-use Prim.Native.Nat.{◌-◌}
 use Rattle.lines.proofs.Kept.{gathering_starts, gathering_on, gathering_at_newline, gathering_at_end}
 use Rattle.lines.proofs.gathering.gather.Goals as goal
 

@@ -1,5 +1,4 @@
 -- `words_8` meets its contract: the loop fills the words from the front. Assumes nothing.
-use Prim.Native.Nat.{◌-◌}
 use native.Mathlib.Omega.{arith}
 use mathlib.Core.Path.{◌≡◌, refl, ◌∙◌}
 use mathlib.Core.List.{append-nil}

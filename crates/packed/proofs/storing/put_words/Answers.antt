@@ -1,5 +1,4 @@
 -- `put_words` meets its contract: the loop makes the run of stores longer, word by word. Assumes nothing.
-use Prim.Native.Nat.{◌-◌}
 use native.Mathlib.Omega.{arith}
 use mathlib.Core.Path.{◌≡◌, refl}
 use lib.Seq.{take_all}
