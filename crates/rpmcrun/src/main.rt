@@ -8,11 +8,14 @@
 ghost use Rattle.std.specs.Prelude.{◌≤◌, ◌≡◌, true, length};
 ghost use Rattle.lines.specs.Feeding.{under_way, feed};
 
-use libc::{STDIN_FILENO, STDOUT_FILENO};
+use std::io;
+use std::io::{ErrorKind, Read, Write};
+use std::rt::HostRuntime;
+
 use state::State;
 
 // How far the conversation has come: the device's state, how many bytes of the next line are kept, and whether it goes on.
-#[derive(Drop)]
+#[derive(Clone, Copy)]
 struct Talk {
     state: State,
     kept: usize,
@@ -20,14 +23,21 @@ struct Talk {
 }
 
 // Writes the first bytes of a text; where there are none, it makes no call. Says whether they could be written.
-fn send(text: &[u8], n: usize) -> bool
+fn send(rt: &HostRuntime, text: &[u8], n: usize) -> bool
     requires { n ≤ length text.now }
 {
-    io::write_all(STDOUT_FILENO, &text[..n])
+    rt.stdout().write_all(&text[..n]).is_ok()
 }
 
 // Feeds the bytes that were read to the conversation, a line at a time. Where it goes on, all of them were.
-fn hear(chunk: &[u8], image: &mut [u8], t: Talk, line: &mut [u8; 515], out: &mut [u8; 517]) -> Talk
+fn hear(
+    rt: &HostRuntime,
+    chunk: &[u8],
+    image: &mut [u8],
+    t: Talk,
+    line: &mut [u8; 515],
+    out: &mut [u8; 517],
+) -> Talk
     ensures { result.goes_on ≡ true → under_way image.new result.state line.new result.kept ≡ (feed chunk.now (under_way image.old t.state line.old t.kept)).after }
 {
     let mut s = t.state;
@@ -41,7 +51,7 @@ fn hear(chunk: &[u8], image: &mut [u8], t: Talk, line: &mut [u8; 515], out: &mut
         s = after;
         kept = heard.kept;
         at += heard.used;
-        goes_on = send(out, n);
+        goes_on = send(rt, out, n);
     }
     Talk {
         state: s,
@@ -51,10 +61,10 @@ fn hear(chunk: &[u8], image: &mut [u8], t: Talk, line: &mut [u8; 515], out: &mut
 }
 
 // The end of the input: a last line without newline is answered too.
-fn end(image: &mut [u8], t: Talk, line: &[u8; 515], out: &mut [u8; 517]) -> Talk {
+fn end(rt: &HostRuntime, image: &mut [u8], t: Talk, line: &[u8; 515], out: &mut [u8; 517]) -> Talk {
     let turned = lines::ended(image, t.state, line, t.kept, out);
     let n = turned.length;
-    send(out, n);
+    send(rt, out, n);
     over(t)
 }
 
@@ -67,36 +77,33 @@ fn over(t: Talk) -> Talk {
 
 // A read that failed. One that a signal has interrupted is made again; after any other the input has not ended, so the line under
 // way is no line, and standard error is told why.
-fn failed(t: Talk) -> Talk {
-    if os::errno() == libc::EINTR {
+fn failed(rt: &HostRuntime, why: io::Error, t: Talk) -> Talk {
+    if why.kind() == ErrorKind::Interrupted {
         return t;
     }
-    os::fail(b"rpmcrun: standard input");
+    let _ = eprintln!(rt; "rpmcrun: standard input: {why}");
     over(t)
 }
 
 // Reads once, and goes over what came.
 fn listen(
+    rt: &HostRuntime,
     chunk: &mut [u8],
     image: &mut [u8],
     t: Talk,
     line: &mut [u8; 515],
     out: &mut [u8; 517],
 ) -> Talk {
-    let got = libc::read(STDIN_FILENO, chunk);
-    if got < 0 {
-        return failed(t);
+    match rt.stdin().read(chunk) {
+        Err(why) => failed(rt, why, t),
+        Ok(0) => end(rt, image, t, line, out),
+        Ok(n) => hear(rt, &chunk[..n], image, t, line, out),
     }
-    let n = io::count(got, chunk);
-    if n == 0 {
-        return end(image, t, line, out);
-    }
-    hear(&chunk[..n], image, t, line, out)
 }
 
 // Answers the lines of standard input until it ends, or until it cannot be read or an answer cannot be written.
-fn converse(image: &mut [u8], out: &mut [u8; 517]) {
-    let mut chunk = io::large_buffer();
+fn converse(rt: &HostRuntime, image: &mut [u8], out: &mut [u8; 517]) {
+    let mut chunk = [0u8; 65536];
     let mut line = [0u8; 515];
     let mut talk = Talk {
         state: state::power_on(),
@@ -106,22 +113,22 @@ fn converse(image: &mut [u8], out: &mut [u8; 517]) {
     // a proved loop has to end, and nothing says that the input does: so it counts down from a number that no run uses up
     let mut reads = u64::MAX;
     while reads > 0 && talk.goes_on {
-        let next = listen(&mut chunk, image, talk, &mut line, out);
+        let next = listen(rt, &mut chunk, image, talk, &mut line, out);
         talk = next;
         reads -= 1;
     }
 }
 
 // Writes the first line, the count. Says whether it could be written.
-fn greet(image: &[u8], out: &mut [u8; 517]) -> bool {
+fn greet(rt: &HostRuntime, image: &[u8], out: &mut [u8; 517]) -> bool {
     let n = lines::first_line(image, out);
-    send(out, n)
+    send(rt, out, n)
 }
 
-fn main() {
+fn main(rt: HostRuntime) {
     let mut image = lines::first_image();
     let mut out = [0u8; 517];
-    if greet(&image, &mut out) {
-        converse(&mut image, &mut out);
+    if greet(&rt, &image, &mut out) {
+        converse(&rt, &mut image, &mut out);
     }
 }

@@ -1,0 +1,4 @@
+use Rattle.rpmcrun.proofs.converse.Given as goal
+
+abbrev pub decreases-loop-reads : goal.decreases-loop-reads
+decreases-loop-reads l = l.reads
