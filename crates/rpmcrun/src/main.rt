@@ -8,11 +8,10 @@
 ghost use Rattle.std.specs.Prelude.{◌≤◌, ◌≡◌, true, length};
 ghost use Rattle.lines.specs.Feeding.{under_way, feed};
 
+use state::State;
 use std::io;
 use std::io::{ErrorKind, Read, Write};
 use std::rt::HostRuntime;
-
-use state::State;
 
 // How far the conversation has come: the device's state, how many bytes of the next line are kept, and whether it goes on.
 #[derive(Clone, Copy)]

@@ -1,3 +1,4 @@
+-- The loop of `converse` ends: the reads are counted down. Assumes nothing.
 use Rattle.rpmcrun.proofs.converse.Given as goal
 
 abbrev pub decreases-loop-reads : goal.decreases-loop-reads
