@@ -213,8 +213,8 @@ pub fn read_reply(key: &[u8], tag: &[u8], reply: &[u8]) -> Verdict
 
 // The four counter bytes, where they stand in the reply; empty unless the reply is good.
 pub fn part<'a>(key: &[u8], tag: &[u8], reply: &'a [u8]) -> &'a [u8]
-    ensures result_value { result.now ≡ part_of (read_reply key.now tag.now reply.now) reply.now }
-    ensures ref_ptr_value { result.ref_ptr ≡ further (part_start (read_reply key.now tag.now reply.now)) reply.entry.ref_ptr }
+    ensures bytes { result.now ≡ part_of (read_reply key.now tag.now reply.now) reply.now }
+    ensures place { result.ref_ptr ≡ further (part_start (read_reply key.now tag.now reply.now)) reply.entry.ref_ptr }
 {
     match read_reply(key, tag, reply) {
         Verdict::Refused(_) => &reply[0..0],

@@ -17,24 +17,24 @@ slice_bounds-result-end-in-Good c =
 
 pub returns-in-Refused : goal.returns-in-Refused
 returns-in-Refused c =
-    rw (← c.read_reply.ensures, c.in-Refused.is) record { result_value = refl; ref_ptr_value = same_place _ _ refl (omega arith) }
+    rw (← c.read_reply.ensures, c.in-Refused.is) record { bytes = refl; place = same_place _ _ refl (omega arith) }
 
 pub returns-in-Busy : goal.returns-in-Busy
 returns-in-Busy c =
-    rw (← c.read_reply.ensures, c.in-Busy.is) record { result_value = refl; ref_ptr_value = same_place _ _ refl (omega arith) }
+    rw (← c.read_reply.ensures, c.in-Busy.is) record { bytes = refl; place = same_place _ _ refl (omega arith) }
 
 pub returns-in-Failed : goal.returns-in-Failed
 returns-in-Failed c =
-    rw (← c.read_reply.ensures, c.in-Failed.is) record { result_value = refl; ref_ptr_value = same_place _ _ refl (omega arith) }
+    rw (← c.read_reply.ensures, c.in-Failed.is) record { bytes = refl; place = same_place _ _ refl (omega arith) }
 
 pub returns-in-WrongTag : goal.returns-in-WrongTag
 returns-in-WrongTag c =
-    rw (← c.read_reply.ensures, c.in-WrongTag.is) record { result_value = refl; ref_ptr_value = same_place _ _ refl (omega arith) }
+    rw (← c.read_reply.ensures, c.in-WrongTag.is) record { bytes = refl; place = same_place _ _ refl (omega arith) }
 
 pub returns-in-WrongSignature : goal.returns-in-WrongSignature
 returns-in-WrongSignature c =
-    rw (← c.read_reply.ensures, c.in-WrongSignature.is) record { result_value = refl; ref_ptr_value = same_place _ _ refl (omega arith) }
+    rw (← c.read_reply.ensures, c.in-WrongSignature.is) record { bytes = refl; place = same_place _ _ refl (omega arith) }
 
 pub returns-in-Good : goal.returns-in-Good
 returns-in-Good c =
-    rw (← c.read_reply.ensures, c.in-Good.is) record { result_value = refl; ref_ptr_value = same_place _ _ refl (omega arith) }
+    rw (← c.read_reply.ensures, c.in-Good.is) record { bytes = refl; place = same_place _ _ refl (omega arith) }

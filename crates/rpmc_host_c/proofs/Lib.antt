@@ -1,0 +1,2 @@
+-- That each exported entry has one answer only.
+pub mod OneAnswer
