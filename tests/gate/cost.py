@@ -1,22 +1,19 @@
 #!/usr/bin/env python3
-"""What the edits of the gate cost beside the proofs: an edit costs a check of its crate, and all of them
+"""What the edits of the gate cost beside the proofs: an edit costs at most a check of its crate, and all of them
 may cost 1.5 times the proofs.
 
-Printed are the seconds of the run of `rt ci` before it, by what rt says of each crate and each edit. They
-are times by the clock, in whole seconds, and the edits run after the proofs: another program that is busy
-during one half changes their ratio, so nothing is asserted of it. Asserted is what no clock can change:
-the same ratio by the seconds that docs/PERFORMANCE.md gives for a check of each crate, with the edits as
-they stand now. So an edit too many in must-fail/ is told, on every machine alike. A crate that the page
-does not have yet counts by this run's seconds, at the speed of the page's machine.
+rt tells no seconds, and it takes over from earlier runs on the machine what has not changed. So what is asserted is
+what no clock can change: the ratio by the seconds that docs/PERFORMANCE.md gives for a check of each crate, with the
+edits as they stand now. So an edit too many in must-fail/ is told, on every machine alike. A crate that the page does not
+have yet counts by its lines, at the page's seconds a line.
 
-tests/gate/cost.py             after rt ci, and before anything else is proved
-tests/gate/cost.py --csv FILE  by the seconds of a file of proof-time --csv alone; needs no run
+tests/gate/cost.py
+tests/gate/cost.py --csv FILE  by the seconds of a file with the columns crate and seconds, in the place of the page's
 """
 
 import argparse
 import csv
 import pathlib
-import re
 import sys
 
 sys.dont_write_bytecode = True  # nothing is written beside the sources
@@ -29,23 +26,10 @@ PAGE = ROOT / "docs" / "PERFORMANCE.md"
 MOST = 1.5
 
 
-def told(path, pattern):
-    """The seconds that rt tells in a file below target/."""
-    found = re.search(pattern, path.read_text(errors="replace"), re.MULTILINE) if path.is_file() else None
-    if not found:
-        raise Failed(f"{path.relative_to(ROOT)} tells no seconds: run rt ci first")
-    return int(found[1])
-
-
-def in_run():
-    """The seconds of each crate's proof, and of its edits, in the run of rt ci."""
-    proofs = {name: told(ROOT / "target" / "log" / f"{name}.out", rf"^rt: {name} proved \((\d+) s\)$")
-              for name in crates(ROOT)}
-    tried = dict.fromkeys(proofs, 0)
-    for edit in edits(ROOT, GATE):
-        log = ROOT / "target" / "must-fail" / edit.crate / f"{edit.label}.out"
-        tried[edit.crate] += told(log, rf"^rt: must-fail {edit.name}: .*\b(\d+) s\)$")
-    return proofs, tried
+def lines(crate):
+    """The lines of a crate's code, definitions and proofs."""
+    files = [path for part in ("src", "specs", "proofs") for path in (ROOT / "crates" / crate / part).glob("**/*.*t")]
+    return sum(len(path.read_text(encoding="utf-8").splitlines()) for path in files)
 
 
 def on_page():
@@ -72,11 +56,10 @@ def weighed(seconds):
     return tried
 
 
-def scaled(page, run):
-    """The page's seconds; of a crate that it does not have, the run's, at the speed of the page's machine."""
-    both = [name for name in run if name in page]
-    speed = sum(page[name] for name in both) / sum(run[name] for name in both)
-    return {name: page.get(name, run[name] * speed) for name in run}
+def whole(page):
+    """The page's seconds; of a crate that it does not have, those of so many lines."""
+    speed = sum(page.values()) / sum(map(lines, page))
+    return {name: page.get(name, lines(name) * speed) for name in crates(ROOT)}
 
 
 def show(proofs, tried):
@@ -108,19 +91,10 @@ def main():
     parser.add_argument("--csv", metavar="FILE", type=pathlib.Path)
     given = parser.parse_args()
     tally = Tally()
-    if given.csv:
-        seconds = in_file(given.csv)
-        show(seconds, weighed(seconds))
-        tally.test(f"edits to proofs, by the seconds of {given.csv}", lambda: within(seconds))
-        return tally.end()
-
-    def by_page():
-        proofs, tried = in_run()
-        show(proofs, tried)
-        print(f"edits to proofs, in this run: {ratio(proofs, tried):.2f}")
-        return within(scaled(on_page(), proofs))
-
-    tally.test("edits to proofs, by the seconds of docs/PERFORMANCE.md", by_page)
+    where = given.csv or PAGE.relative_to(ROOT)
+    seconds = in_file(given.csv) if given.csv else whole(on_page())
+    show(seconds, weighed(seconds))
+    tally.test(f"edits to proofs, by the seconds of {where}", lambda: within(seconds))
     return tally.end()
 
 

@@ -1,24 +1,34 @@
-"""How a log of the prover is read: why it refused a wrong version."""
+"""How the lines of rt are read: what it says of a wrong version, and why the prover refused it."""
+
+import re
 
 from shared.tally import Failed
 
-# What the prover says where a proof file does not fit the code: it answers a need that is not
-# asked, or not in this order, or names what is not there.
-UNFIT = (
-    "that can be named from here",
-    "expected type `goal.",
-    "needs a function (or path) type to bind",
-    "this λ has",
-    "is not in scope",
-    "has no field",
-)
+TRIED = re.compile(r"^rt: must-fail (\S+)\.edit: (.*)", re.MULTILINE)
+REFUSED = "refused, as it must be"
+
+# What rt says of a refusal that shows no fact: the proof file does not fit the code, or the prover came to no end.
+UNFIT = "only because a proof file names what the edit took away"
+NO_END = "only by a limit of the prover"
 
 
-def refused(text):
-    """What the prover said of a wrong version: it must show a fact that fails, and nothing that does not fit."""
-    for words in UNFIT:
-        if words in text:
-            line = next(line for line in text.splitlines() if words in line)
-            raise Failed(f"the proof file does not fit the edited code: {line[:300]}")
-    if "logic=not-proved" not in text:
-        raise Failed("the prover came to no end")
+def tried(text):
+    """What rt says of each wrong version that it tried, by its name CRATE/LABEL: of one that it names twice, both."""
+    found = {}
+    for name, said in TRIED.findall(text):
+        found.setdefault(name, []).append(said)
+    return found
+
+
+def refused(said):
+    """What rt says of a wrong version, in one line: it must show a fact that fails. Gives the prover's words on it."""
+    if not said.startswith(REFUSED):
+        raise Failed(said[:300])
+    why = said.removeprefix(REFUSED)
+    if UNFIT in why:
+        raise Failed(f"the proof file does not fit the edited code: {why[:300]}")
+    if NO_END in why:
+        raise Failed(f"the prover came to no end: {why[:300]}")
+    if not why.startswith(": "):
+        raise Failed(f"rt names no fact that fails: {said[:300]}")
+    return why.removeprefix(": ")
