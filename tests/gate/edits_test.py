@@ -15,6 +15,7 @@ from shared.tally import Failed, Tally  # noqa: E402
 
 CODE = """\
 // Two functions.
+
 #![tactic(auto)]
 
 ghost use Rattle.std.specs.Prelude.{◌≡◌};
@@ -23,7 +24,6 @@ ghost use Rattle.small.specs.Small.{same};
 pub fn echo(x: usize) -> usize
     ensures { result ≡ same x }
 {
-    if x == 0 { return x; }
     x
 }
 
@@ -33,47 +33,48 @@ pub fn seven() -> usize
     7
 }
 """
-PROOF = """\
-use Rattle.std.proofs.Common.{refl}
-use Rattle.small.specs.Small.{same}
-use Rattle.small.proofs.echo.Goals as goal
-
-pub returns-then-x-eq0 : goal.returns-then-x-eq0
-unfolding same
-returns-then-x-eq0 c = refl
-
-pub returns : goal.returns
-unfolding same
-returns c = refl
-"""
 SPEC = """\
 use Rattle.std.specs.Prelude.{ℕ}
 
-unfoldable pub same : ℕ → ℕ
+abbrev pub same : ℕ → ℕ
 same x = x
+
+abbrev pub twin : ℕ → ℕ
+twin x = x
+"""
+PROOF = """\
+use Rattle.std.proofs.Common.{◌≡◌, ℕ}
+use mathlib.Core.Path.{refl}
+use Rattle.small.specs.Small.{same, twin}
+
+pub twins : (x : ℕ) → twin x ≡ same x
+twins x = refl
 """
 FILES = {
     "crates.txt": "small:\n",
     "crates/small/src/lib.rt": CODE,
     "crates/small/specs/Lib.antt": "pub mod Small\n",
     "crates/small/specs/Small.antt": SPEC,
-    "crates/small/proofs/echo/Answers.antt": PROOF,
+    "crates/small/proofs/Lib.antt": "mod Twins\n",
+    "crates/small/proofs/Twins.antt": PROOF,
 }
 
-# A wrong version: the text that is replaced, the new one, and what edits.py has to say of it.
+# A wrong version: the file, the text that is replaced with the new one, once or more, and what edits.py has to say of it.
 VERSIONS = {
-    "a_fact_fails": ("    7", "    8", "ok small/a_fact_fails (refused, first at src/lib.rt"),
-    "nothing_is_wrong": ("// Two", "// Both", "FAIL small/nothing_is_wrong: NOT REFUSED"),
-    "the_proof_does_not_fit": ("    if x == 0 { return x; }", "",
+    "a_fact_fails": ("src/lib.rt", [("    7", "    8")], "ok small/a_fact_fails (refused: note: src/lib.rt:"),
+    "nothing_is_wrong": ("src/lib.rt", [("// Two", "// Both")], "FAIL small/nothing_is_wrong: NOT REFUSED"),
+    "the_proof_does_not_fit": ("specs/Small.antt", [("pub twin : ", "pub copy : "), ("twin x = x", "copy x = x")],
                                "FAIL small/the_proof_does_not_fit: the proof file does not fit"),
-    "no_such_text": ("    9", "    8", "FAIL small/no_such_text: its 'old:' text stands 0 times"),
-    "not_a_program": ("    7", "    7 +", "FAIL small/not_a_program: it did not reach the prover"),
+    "no_such_text": ("src/lib.rt", [("    9", "    8")],
+                     "FAIL small/no_such_text: BAD EDIT: an 'old:' text is in src/lib.rt 0 times"),
+    "not_a_program": ("src/lib.rt", [("    7", "    7 +")],
+                      "FAIL small/not_a_program: BAD EDIT: it did not reach the prover"),
 }
 
 
 def repository(root):
-    edits = {f"crates/small/wrong/{label}.edit": f"file: src/lib.rt\nold: {old}\nnew: {new}\n"
-             for label, (old, new, _) in VERSIONS.items()}
+    edits = {f"crates/small/wrong/{label}.edit": f"file: {file}\n" + "".join(f"old: {old}\nnew: {new}\n" for old, new in pairs)
+             for label, (file, pairs, _) in VERSIONS.items()}
     for name, text in (FILES | edits).items():
         path = root / name
         path.parent.mkdir(parents=True, exist_ok=True)
@@ -85,7 +86,7 @@ def tried(root):
     printed = io.StringIO()
     with contextlib.redirect_stdout(printed):
         trial = Trial(root, chosen(root, [], False)[0])
-        trial.run(1)
+        trial.run()
         trial.summary()
     return printed.getvalue().splitlines()
 

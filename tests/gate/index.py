@@ -18,7 +18,7 @@ from shared.tally import Failed, Tally  # noqa: E402
 ROOT = pathlib.Path(__file__).resolve().parents[2]
 INDEX = ROOT / "tests/README.md"
 RUNS = ("tests/run", ".ci/run")
-NOT_READ = {".git", "target", "__pycache__"}  # folders
+NOT_READ = {".git", "target", "out", "__pycache__"}  # folders
 
 RUNNABLE = {"test", "on demand", "script"}
 KINDS = RUNNABLE | {"module", "program", "data"}
