@@ -1,6 +1,6 @@
 # The host's C library: builds it, installs it with its header and its pkg-config file, removes it.
 #
-#   make                                the library, below target/; needs the Rattle kit's rt
+#   make                                the library, target/staticlib/librpmc_host.a; needs the Rattle kit's rt
 #   make install PREFIX=/usr/local      where it is to be used; DESTDIR=/stage stands before each path
 #   make uninstall PREFIX=/usr/local    removes the three files again
 
@@ -12,7 +12,8 @@ DESTDIR =
 VERSION = 1.0.0
 
 library := target/staticlib/librpmc_host.a
-sources := crates.txt $(shell find crates -name '*.rt' -o -name '*.antt')
+built := crates/rpmc_host_c/out/librpmc_host_c.a
+sources := crates.txt $(shell find crates -path 'crates/*/out' -prune -o \( -name '*.rt' -o -name '*.antt' \) -print)
 
 header_place = $(DESTDIR)$(INCLUDEDIR)/rpmc_host.h
 library_place = $(DESTDIR)$(LIBDIR)/librpmc_host.a
@@ -22,10 +23,12 @@ pc_place = $(DESTDIR)$(PKGCONFIGDIR)/rpmc_host.pc
 
 all: $(library)
 
-# rt leaves a library alone whose code has not changed: its date has to be that of this look at it
+# rt names the archive after its crate, the thin one over crates/rpmc_host, and rt ci clears its folder away: so what is installed
+# is a copy
 $(library): $(sources)
-	rt staticlib rpmc_host
-	touch $@
+	cd crates/rpmc_host_c && rt lib
+	mkdir -p $(@D)
+	cp $(built) $@
 
 install: $(library)
 	install -d "$(DESTDIR)$(INCLUDEDIR)" "$(DESTDIR)$(LIBDIR)" "$(DESTDIR)$(PKGCONFIGDIR)"

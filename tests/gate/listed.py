@@ -27,12 +27,22 @@ class Edit:
         return f"{self.crate}/{self.label}"
 
 
-def crates(root):
-    """The crates of crates.txt in its order, each with the names that it stands on. A word may stand behind a
-    crate's name, as `staticlib`."""
+def entries(root):
+    """The lines of crates.txt that list a crate: its name, the words behind it, and the names that it stands on."""
     lines = (line.split("#")[0] for line in (root / "crates.txt").read_text().splitlines())
     parts = (line.split(":") for line in lines if ":" in line)
-    return {name.split()[0]: below.split() for name, below in parts}
+    return [(*head.split(maxsplit=1), "")[:2] + (below.split(),) for head, below in parts]
+
+
+def crates(root):
+    """The crates of crates.txt in its order, each with the names that it stands on."""
+    return {name: below for name, _, below in entries(root)}
+
+
+def linked(root):
+    """The crates that a whole program or archive is made of: programs, and static libraries. No crate stands on one."""
+    return [name for name, words, _ in entries(root)
+            if words == "staticlib" or (root / "crates" / name / "src" / "main.rt").is_file()]
 
 
 def edits(root, folder):

@@ -18,7 +18,7 @@ rattle_home=${RATTLE_HOME:-}
 if [ -z "$rattle_home" ] && command -v rt >/dev/null; then
     rattle_home=$(dirname "$(dirname "$(readlink -f "$(command -v rt)")")")
 fi
-rattle_tools=$rattle_home/on/$machine/toolchain
+rattle_tools=$rattle_home/toolchain
 
 # An Arm machine runs x86-64 programs under an emulator: the kit's own, or else Debian's.
 x86_cc=(gcc)

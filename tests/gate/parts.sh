@@ -24,7 +24,7 @@ finish() {
     printf '%-24s %8s %8s %8s\n' part passed failed seconds "${table[@]}"
     if [ "${#broken[@]}" -gt 0 ]; then
         echo "Each command below runs alone, from the project's root. It may need what the parts before it have left"
-        echo "below target/, which is there until the next rt ci."
+        echo "below target/ and in crates/*/out/; rt ci clears the latter."
         printf '%s\n' "${broken[@]}"
     fi
     echo "$passed passed, $failed failed"

@@ -20,7 +20,7 @@ sys.path[0] = str(pathlib.Path(__file__).resolve().parents[1])  # modules are na
 from shared.tally import Failed, Tally  # noqa: E402
 
 ROOT = pathlib.Path(__file__).resolve().parents[2]
-LIBRARIES = ["target/staticlib/librpmc_host.a", "target/staticlib/libdevice_probe.a"]
+LIBRARIES = ["target/staticlib/librpmc_host.a", "crates/device_probe/out/libdevice_probe.a"]
 FLAGS = ["-std=c99", "-O2", "-Wall", "-Wextra", "-Werror", "-Iinclude"]
 PATIENCE = 600  # seconds for a program
 SEED, SESSIONS = 1, 1_000
