@@ -80,6 +80,7 @@ fn status_of(frame_type: u8, reserved: u8, counter: u8, count: u32, slot: Slot, 
 }
 
 // Checks 1 to 7: the status of the first that fails, 0 if none does. What is too short is told before a byte of it is read.
+#[tactic(auto, unfolding(crate::specs::Checks::arrival_status, words::specs::Rows::first_of, words::specs::Choice::pick))]
 pub fn arrival_status(frame: &[u8], count: u32, slot: Slot, has_key: bool) -> u8
     ensures { result ≡ arrival_status frame.now count slot has_key }
 {

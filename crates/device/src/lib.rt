@@ -108,6 +108,7 @@ pub fn power_up(image: &[u8]) -> Answer
 }
 
 // One frame, with the buffer that a read fills. Refusals 1 to 4.
+#[tactic(auto, unfolding(crate::specs::Calls::after_frame, crate::specs::Calls::output_after_frame, words::specs::Choice::pick))]
 pub fn frame(image: &[u8], s: State, frame: &[u8], output: &mut [u8]) -> Answer
     ensures value { result ≡ after_frame image.now s frame.now }
     ensures output_after { output.new ≡ output_after_frame image.now s frame.now output.old }

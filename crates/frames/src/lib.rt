@@ -20,6 +20,7 @@ pub enum Class {
 }
 
 // The class of a frame that is not empty, by its first byte and its length.
+#[tactic(auto, unfolding(crate::specs::Classes::named_class, words::specs::Choice::pick))]
 fn named_class(first: u8, size: usize) -> Class
     ensures { result ≡ named_class first size }
 {
@@ -68,6 +69,7 @@ pub struct Reply {
 }
 
 // Byte i of what a read hands out.
+#[tactic(auto, unfolding(crate::specs::Reading::read_byte, words::specs::Choice::pick))]
 fn read_byte(busy: bool, status: u8, reply: Reply, i: usize) -> u8
     ensures { result ≡ read_byte busy status reply i }
 {

@@ -99,6 +99,7 @@ pub fn refused(number: u32) -> Answer
 }
 
 // SHA-256 of a message. Refusal 11: it is above 55 bytes.
+#[tactic(auto, unfolding(crate::specs::Answer::hash_answer, words::specs::Rows::first_of, words::specs::Choice::pick))]
 pub fn hash(message: &[u8]) -> Answer
     ensures { result ≡ hash_answer message.now }
 {

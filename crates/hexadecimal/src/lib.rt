@@ -62,6 +62,7 @@ fn value_of(character: u8) -> u8
 }
 
 // Whether every character is a digit's.
+#[tactic(auto, using(crate::proofs::AllDigits::digit_passed, crate::proofs::AllDigits::digit_missing))]
 fn all_digits(text: &[u8]) -> bool
     ensures { result ≡ all_digits text.now }
 {

