@@ -98,6 +98,7 @@ fn fill_bytes(text: &[u8], out: &mut [u8])
 
 // Reads the digits of a text as bytes to the front of a buffer, and leaves the rest; returns how many bytes there are. A text
 // that is not all digits, or of an odd number of them, or too long for the buffer, has none.
+#[tactic(auto, using(crate::proofs::Readable::too_many, crate::proofs::Readable::odd, crate::proofs::Readable::other), unfolding(words::specs::Words::with_front))]
 pub fn read(text: &[u8], out: &mut [u8]) -> usize
     ensures value { result ≡ length (readable (length out.old) text.now) }
     ensures out_after { out.new ≡ with_front (readable (length out.old) text.now) out.old }
