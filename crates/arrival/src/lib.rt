@@ -79,6 +79,7 @@ fn taken(s: State, status: u8, job: Job) -> State
 }
 
 // The state after a frame is taken.
+#[tactic(auto, unfolding(crate::specs::Arrival::arrived, words::specs::Choice::pick))]
 pub fn arrived(image: &[u8], s: State, frame: &[u8]) -> State
     ensures { result ≡ arrived image.now s frame.now }
 {

@@ -83,6 +83,7 @@ fn signature_status(command: Command, frame: [u8; 64], digest: [u8; 32]) -> u8
 }
 
 // Checks 9 and 10 of an increment, of the frame's data and the counter value.
+#[tactic(auto, unfolding(words::specs::Rows::first_of, words::specs::Choice::pick))]
 fn increment_status(sent: u32, value: u32) -> u8
     ensures { result ≡ first_failing (value_checks 2 sent value) }
 {

@@ -152,6 +152,7 @@ fn work_steps(image: &mut [u8], s: State, quota: u32) -> Answer
 }
 
 // Work: at most the quota's steps of the job, and how many were done. Refusals 1 to 4.
+#[tactic(auto, unfolding(crate::specs::Calls::after_work, crate::specs::Calls::image_after_work, words::specs::Choice::pick))]
 pub fn work(image: &mut [u8], s: State, quota: u32) -> Answer
     ensures value { result ≡ after_work (device image.old s) quota }
     ensures image_after { image.new ≡ image_after_work (device image.old s) quota }

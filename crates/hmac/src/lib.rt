@@ -96,6 +96,7 @@ pub fn chain_after(
 }
 
 // The HMAC of a message under a key. Refusal 6: the key is not 32 bytes; 11: the message is above 55 bytes.
+#[tactic(auto, unfolding(crate::specs::Answer::hmac_answer, words::specs::Rows::first_of, words::specs::Choice::pick))]
 pub fn hmac(key: &[u8], message: &[u8]) -> Answer
     ensures { result ≡ hmac_answer key.now message.now }
 {

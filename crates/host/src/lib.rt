@@ -14,6 +14,7 @@ ghost use Rattle.host.specs.Building.{build_refusal, data_size_of, built_signed}
 ghost use Rattle.host.specs.Building.{Answers, built_root_key, built_session_key, built_increment, built_request, derived_key};
 
 // Refusals 5, 6 and 7, in this order.
+#[tactic(auto, unfolding(crate::specs::Building::build_refusal, words::specs::Rows::first_of, words::specs::Rows::any_of, words::specs::Choice::pick))]
 fn build_refusal(
     counter: u32,
     key: usize,
@@ -175,6 +176,7 @@ fn reply_signed(key: &[u8], reply: &[u8]) -> bool
 }
 
 // The verdict on a reply, of arguments of the right lengths.
+#[tactic(auto, unfolding(crate::specs::Reading::judged, words::specs::Rows::first_of, words::specs::Choice::pick))]
 fn judged(key: &[u8], tag: &[u8], reply: &[u8]) -> Verdict
     requires { (length key.now ≡ 32) × (length reply.now ≡ 49) }
     ensures { result ≡ judged key.now tag.now reply.now }
@@ -196,6 +198,7 @@ fn judged(key: &[u8], tag: &[u8], reply: &[u8]) -> Verdict
 }
 
 // The verdict on a reply to the request with this tag. Refusals 6 and 8.
+#[tactic(auto, unfolding(crate::specs::Reading::read_reply, crate::specs::Reading::judged, words::specs::Rows::first_of, words::specs::Rows::any_of, words::specs::Choice::pick))]
 pub fn read_reply(key: &[u8], tag: &[u8], reply: &[u8]) -> Verdict
     ensures { result ≡ read_reply key.now tag.now reply.now }
 {

@@ -45,6 +45,7 @@ fn layout_refusal(count: u32, offset: u32, size: u32, total: u32) -> u32
 }
 
 // Refusals 2 and 3, of the four words of the header.
+#[tactic(auto, unfolding(words::specs::Rows::first_of, words::specs::Rows::any_of, words::specs::Choice::pick))]
 fn header_refusal(count: u32, offset: u32, size: u32, total: u32) -> u32
     ensures { result ≡ first_failing (drop 1 (refusals total count offset size total)) }
 {
@@ -65,6 +66,7 @@ pub fn count(image: &[u8]) -> u32
 }
 
 // Refusals 1 to 3, in order; 0 if the image is accepted. What is too short is told before a word is read.
+#[tactic(auto, unfolding(crate::specs::Refusal::refusal, words::specs::Rows::first_of, words::specs::Rows::any_of, words::specs::Choice::pick))]
 pub fn refusal(image: &[u8]) -> u32
     ensures { result ≡ refusal image.now }
 {

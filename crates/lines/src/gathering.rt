@@ -13,6 +13,7 @@ pub struct Gathered {
 
 // Keeps one more byte of a line, if it is among the first 515: a line that long is never known, whatever follows
 // (proofs/TooLong.antt). Returns how many are kept.
+#[tactic(auto, unfolding(words::specs::Choice::pick))]
 fn keep(line: &mut [u8], kept: usize, byte: u8) -> usize
     requires { length line.old ≡ 515 }
     ensures value { result ≡ pick (ltb kept 515) (kept + 1) kept }

@@ -110,6 +110,7 @@ fn framed(image: &[u8], s: State, digits: &[u8], out: &mut [u8; 517]) -> Turned
 }
 
 // `S`: a quota of 0 to 255.
+#[tactic(auto, unfolding(crate::specs::Turn::worked, words::specs::Choice::pick))]
 fn worked(image: &mut [u8], s: State, quota: u32, out: &mut [u8; 517]) -> Turned
     ensures gives_turn { GivesTurn (worked (device image.old s) quota) result out.old out.new }
     ensures image_after { image.new ≡ (worked (device image.old s) quota).after.image }
@@ -140,6 +141,7 @@ fn shown(image: &[u8], s: State, bytes: &mut [u8], out: &mut [u8; 517]) -> Turne
 }
 
 // `R`: a read of 1 to 256 bytes.
+#[tactic(auto, unfolding(crate::specs::Turn::read, words::specs::Choice::pick))]
 fn read(image: &[u8], s: State, size: u32, out: &mut [u8; 517]) -> Turned
     ensures { GivesTurn (read (device image.now s) size) result out.old out.new }
 {

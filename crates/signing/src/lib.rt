@@ -153,6 +153,7 @@ fn block_done(command: Command, s: State) -> [u32; 8]
 }
 
 // The words of the inner digest after a block: kept from the second block on.
+#[tactic(auto, unfolding(crate::specs::Hashed::inner_after, words::specs::Choice::pick))]
 fn inner_after(step: u8, inner: [u32; 8], chain: [u32; 8]) -> [u32; 8]
     ensures { result ≡ inner_after step inner chain }
 {
@@ -163,6 +164,7 @@ fn inner_after(step: u8, inner: [u32; 8], chain: [u32; 8]) -> [u32; 8]
 }
 
 // The session key that a job made, after a block.
+#[tactic(auto, unfolding(words::specs::Choice::pick))]
 fn made_after(command: Command, step: u8, made: [u8; 32], chain: [u32; 8]) -> [u8; 32]
     ensures { result ≡ made_after command step made chain }
 {

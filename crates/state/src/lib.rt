@@ -99,6 +99,7 @@ pub fn power_on() -> State
 }
 
 // The key at a place among the four; none past them.
+#[tactic(auto, using(crate::proofs::Inside::no_key_lem))]
 fn key_at(keys: [Key; 4], place: u8) -> Key
     ensures { result ≡ get_or keys place no_key }
 {

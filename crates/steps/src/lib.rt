@@ -164,6 +164,7 @@ fn decision_of(s: State, value: u32) -> u8
 }
 
 // The state after the last step of the signature check: a failed check ends the job.
+#[tactic(auto, unfolding(crate::specs::Deciding::decided, words::specs::Choice::pick))]
 fn decided(s: State, value: u32) -> State
     requires { s.job.step < 255 }
     ensures { result ≡ decided s value }

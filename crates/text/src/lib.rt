@@ -13,6 +13,7 @@ ghost use Rattle.text.specs.Printing.{newline, decimal, count_line, number_line,
 const NONE: u32 = 1000;
 
 // The value of a digit's character.
+#[tactic(auto, unfolding(crate::specs::Numbers::value_of, words::specs::Choice::pick))]
 fn value_of(character: u8) -> u32
     ensures { result ≡ value_of character }
 {
@@ -26,6 +27,7 @@ fn value_of(character: u8) -> u32
 }
 
 // A number with one more digit behind it.
+#[tactic(auto, unfolding(crate::specs::Numbers::with_digit, words::specs::Choice::pick))]
 fn with_digit(number: u32, digit: u32) -> u32
     ensures { result ≡ with_digit number digit }
 {
@@ -150,6 +152,7 @@ fn put_read(number: u32, bytes: &[u8], out: &mut [u8]) -> usize
 }
 
 // Prints the answer number and the bytes of a read, or `?` where they are more than 256. Returns the length.
+#[tactic(auto, unfolding(crate::specs::Printing::fitting_read_line, words::specs::Choice::pick))]
 pub fn read_line(number: u32, bytes: &[u8], out: &mut [u8; 517]) -> usize
     ensures { Prints (fitting_read_line number bytes.now) result out.old out.new }
 {

