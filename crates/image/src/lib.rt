@@ -66,7 +66,6 @@ pub fn count(image: &[u8]) -> u32
 }
 
 // Refusals 1 to 3, in order; 0 if the image is accepted. What is too short is told before a word is read.
-#[tactic(auto, unfolding(crate::specs::Refusal::refusal, words::specs::Rows::first_of, words::specs::Rows::any_of, words::specs::Choice::pick))]
 pub fn refusal(image: &[u8]) -> u32
     ensures { result ≡ refusal image.now }
 {
