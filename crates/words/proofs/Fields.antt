@@ -1,13 +1,15 @@
 -- A field that is all inside is that part of the list, and its words are the list's; a field of lists in a row. Assumes nothing.
-use Prim.Native.Nat.{ℕ, ◌+◌, ◌≤◌}
+use Prim.Native.Nat.{ℕ, min, ◌+◌, ◌*◌, ◌≤◌}
 use mathlib.Core.Path.{◌≡◌, ap, sym, ◌∙◌}
 use mathlib.Core.List.{List, ◌++◌}
-use native.Mathlib.Nat.{add_assoc}
+use mathlib.Core.Logic.{⊎_elim}
+use native.Mathlib.Nat.{add_assoc, eq-or-lt_of_le}
 use native.Mathlib.Omega.{arith}
-use lib.ListN.{length, get_or, take, drop, length-drop, length-append}
+use lib.ListN.{length, get_or, get_or-eq_default, take, drop, length-drop, length-append}
 use lib.Seq.{take-length, take_all, take_at, drop_at, get_or-drop}
 use Rattle.words.specs.Table.{field}
-use Rattle.words.specs.Words.{word_at}
+use Rattle.words.specs.Words.{word_at, word_or0, words_of, words_at}
+use Rattle.words.proofs.Inside.{get_inside, get_outside}
 use Rattle.words.proofs.Table.{length-table, table_same, table-take, get_or-table}
 
 pub field_part : (at n : ℕ) (s : List ℕ) → at + n ≤ length s → take n (drop at s) ≡ field at n s
@@ -57,3 +59,26 @@ pub same_word : (n : ℕ) (b c : List ℕ) → field 0 n c ≡ field 0 n b → (
 same_word n b c same i h =
     let place : i ≡ 0 + i = omega arith in
     ap (word_at c) place ∙ sym (field_word 0 n c i h) ∙ ap (λ (l : List ℕ). word_at l i) same ∙ field_word 0 n b i h ∙ ap (word_at b) (sym place)
+
+-- a byte at a place that is cut down to a number not below the end: past it either way, or the same place
+pub byte_capped : (s : List ℕ) (place top m : ℕ) → length s ≤ top → m ≡ min place top → get_or s m 0 ≡ get_or s place 0
+byte_capped s place top m h e =
+    let below : m ≤ place = omega arith in
+    ⊎_elim
+    (λ same. rw same)
+    (λ less. get_or-eq_default s 0 {n = m} (omega arith) ∙ sym (get_or-eq_default s 0 {n = place} (omega arith)))
+    (eq-or-lt_of_le below)
+
+-- a word likewise
+pub word_capped : (s : List ℕ) (place top m : ℕ) → length s ≤ top → m ≡ min place top → word_or0 s m ≡ word_or0 s place
+word_capped s place top m h e =
+    let below : m ≤ place = omega arith in
+    ⊎_elim
+    (λ same. rw same)
+    (λ less. get_outside s m (omega arith) ∙ sym (get_outside s place (omega arith)))
+    (eq-or-lt_of_le below)
+
+-- words that are all inside, from the front
+pub words_inside : (n : ℕ) (s : List ℕ) → 4 * n ≤ length s → words_at 0 n s ≡ words_of n s
+unfolding words_of
+words_inside n s h = table_same _ _ n (λ i below. let e : 0 + 4 * i ≡ 4 * i = omega arith in rw e (get_inside s (4 * i) (omega arith)))

@@ -1,4 +1,6 @@
 -- One answer only, for each public function of this crate. Assumes nothing.
+use Prim.Native.Nat.{ℕ}
+use Rattle.std.proofs.Common.{Fits, w64}
 use mathlib.Core.Path.{sym, ◌∙◌}
 use Rattle.words.proofs.Unique.{OneResult, OneLent}
 use Rattle.words.proofs.word.Reads as word-reads
@@ -8,6 +10,8 @@ use Rattle.words.proofs.get.Reads as get-reads
 use Rattle.words.proofs.put.Reads as put-reads
 use Rattle.words.proofs.copy.Reads as copy-reads
 use Rattle.words.proofs.place.Reads as place-reads
+use Rattle.words.proofs.part.Reads as part-reads
+use Rattle.words.proofs.words_at.Reads as words_at-reads
 
 word_one : OneResult word-reads.Post
 word_one κs a x y s t p q = p ∙ sym q
@@ -29,3 +33,10 @@ copy_one κs a x y s t p q = p ∙ sym q
 
 place_one : OneLent place-reads.Post (λ κs s. s.1.1.0.now)
 place_one κs a x y s t p q = p ∙ sym q
+
+-- of arrays of any length
+part_one : (n : ℕ) (fits : Fits w64 n) → OneResult (part-reads.Post n fits)
+part_one n fits κs a x y s t p q = p ∙ sym q
+
+words_at_one : (n : ℕ) (fits : Fits w64 n) → OneResult (words_at-reads.Post n fits)
+words_at_one n fits κs a x y s t p q = p ∙ sym q

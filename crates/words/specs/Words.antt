@@ -40,6 +40,10 @@ words_of n s = table (λ i. word_at s (4 * i)) n
 abbrev pub word_or0 : List ℕ → ℕ → ℕ
 word_or0 s at = pick (inside s at) (word_at s at) 0
 
+-- reading: the n words that start at a place
+abbrev pub words_at : ℕ → ℕ → List ℕ → List ℕ
+words_at at n s = table (λ i. word_or0 s (at + 4 * i)) n
+
 -- storing: the list with the word at a place, or as it was where the word is not all inside
 abbrev pub with_word : List ℕ → ℕ → ℕ → List ℕ
 with_word s at w = pick (inside s at) (put_word s at w) s

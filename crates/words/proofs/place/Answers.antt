@@ -1,17 +1,9 @@
--- `place` meets its contract: the two tests are that the bytes are all inside. Assumes nothing.
+-- `place` meets its contract: what is copied stands between what was in front of it and what was behind. Assumes nothing.
 use native.Mathlib.Omega.{arith}
-use mathlib.Core.Path.{sym, ◌∙◌}
-use Rattle.words.proofs.Inside.{place_inside, place_outside}
+use Rattle.words.proofs.Inside.{place_split}
 use Rattle.words.proofs.place.Goals as goal
 
-pub returns-then-out-at : goal.returns-then-out-at
-returns-then-out-at c = let a = c.args in sym (place_outside a.out.now a.at a.bytes.now (omega arith))
-
-pub returns-then-out-at-2 : goal.returns-then-out-at-2
-returns-then-out-at-2 c =
-    let a = c.args in sym (place_outside a.out.now a.at a.bytes.now (omega arith))
-
-pub returns : goal.returns
-returns c =
+pub returns-then-bytes-out : goal.returns-then-bytes-out
+returns-then-bytes-out c =
     let a = c.args in
-    c.place_inside.ensures ∙ sym (place_inside a.out.now a.at a.bytes.now (omega arith))
+    rw c.copy_from_slice.ensures.after (place_split a.out.now a.at _ a.bytes.now (omega arith) (omega arith))

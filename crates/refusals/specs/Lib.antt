@@ -1,0 +1,2 @@
+-- The refusals and their numbers: document 01's table.
+pub mod Numbers
