@@ -2,6 +2,7 @@
 pub mod Bitwise
 pub mod Rotations
 pub mod Groups
+pub mod Made
 pub mod Lengths
 pub mod StepOne
 pub mod OneAnswer

@@ -1,20 +1,9 @@
--- `sums` meets its contract: the loop fills the words from the front with the sums. Assumes nothing.
-use Rattle.std.proofs.Common.{◌≡◌, refl, ◌∙◌, arith}
-use Rattle.words.specs.Table.{table}
-use Rattle.words.proofs.Table.{table_more, table-all}
+-- `sums` meets its contract: the sum at each place. Assumes nothing.
+use Rattle.std.proofs.Common.{◌+◌, ◌%◌, ◌^◌, slice_index, rules, tests}
 use Rattle.sha256.specs.Block.{sums}
+use Rattle.sha256.proofs.Made.{made}
 use Rattle.sha256.proofs.sums.Goals as goal
-
-pub loop-i-init : goal.loop-i-init
-unfolding table
-loop-i-init c = (omega arith, refl)
-
-pub loop-i-preserved : goal.loop-i-preserved
-loop-i-preserved c =
-    (omega arith, rw (c.sum2.ensures, c.loop-i.invariant.1) (table_more _ _ _ (omega arith)))
 
 pub returns : goal.returns
 unfolding sums
-returns c =
-    let e : c.loop-i.i ≡ 8 = omega arith in
-    rw e at c.loop-i.invariant.1 ∙ table-all _ 8 c.args.h (omega arith)
+returns c = made _ (λ i. (slice_index c.args.v i + slice_index c.args.h i) % 2 ^ 32) _ (λ i y q k. search (rules, tests)) _ 8 c.from_fn.ensures.items
