@@ -12,21 +12,13 @@ fn difference(a: &[u8], b: &[u8]) -> u8
     requires { length a.now ≡ length b.now }
     ensures { result ≡ differences (length a.now) a.now b.now }
 {
-    let mut d = 0;
-    let mut i = 0;
-    while i < a.len() {
-        d = d | (a[i] ^ b[i]);
-        i += 1;
-    }
-    d
+    a.iter().zip(b).fold(0, |d, (x, y)| d | (x ^ y))
 }
 
 // Whether two slices hold the same bytes.
+#[tactic(auto, using(crate::proofs::Agree::agree, crate::proofs::Agree::lengths))]
 pub fn same(a: &[u8], b: &[u8]) -> bool
     ensures { result ≡ same_bytes a.now b.now }
 {
-    if a.len() != b.len() {
-        return false;
-    }
-    difference(a, b) == 0
+    a.len() == b.len() && difference(a, b) == 0
 }

@@ -1,22 +1,11 @@
--- `difference` meets its contract: the loop takes the bytes in turn, every one. Assumes nothing.
-use mathlib.Core.Path.{◌≡◌, refl}
-use native.Mathlib.Numerals.{add-one}
-use native.Mathlib.Omega.{arith}
-use lib.ListN.{length}
-use Rattle.compare.specs.Compare.{differences}
+-- `difference` meets its contract: what it gathers are the differences of the pairs. Assumes nothing.
+use Rattle.std.proofs.Common.{rules, ◌∙◌, tests}
+use Rattle.std.proofs.lemmas.Iterator.{YieldsList-from_slice, YieldsList-from_zip}
+use Rattle.std.proofs.lemmas.Iterator.Consumers.{fold_from_yields_List}
+use Rattle.compare.proofs.Gathered.{more, gathered}
 use Rattle.compare.proofs.difference.Goals as goal
-
-pub loop-i-init : goal.loop-i-init
-unfolding differences
-loop-i-init c = (omega arith, refl)
-
-pub loop-i-preserved : goal.loop-i-preserved
-unfolding differences
-loop-i-preserved c =
-    (omega arith, rw (c.loop-i.invariant.1, add-one c.loop-i.i))
 
 pub returns : goal.returns
 returns c =
-    let a = c.args.a.now in
-    let e : c.loop-i.i ≡ length a = omega arith in
-    rw e at c.loop-i.invariant.1
+    fold_from_yields_List _ more 0 c.fold.result c.fold.ensures.ran (YieldsList-from_zip (YieldsList-from_slice c.args.a.now cc) (YieldsList-from_slice c.args.b.now cc)) (λ a x b q k. search (rules, tests))
+    ∙ gathered c.args.a.now c.args.b.now c.requires
