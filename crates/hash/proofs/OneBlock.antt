@@ -1,15 +1,18 @@
 -- Messages of at most 55 bytes, alone or after one whole block: their padding is the last block, so that SHA-256 of them is
 -- one block, or two. Assumes nothing.
-use mathlib.Core.Path.{◌≡◌, refl, sym, ◌∙◌}
+use mathlib.Core.Path.{◌≡◌, sym, ◌∙◌}
 use mathlib.Core.List.{List, ◌∷◌, ◌++◌, append_assoc, append-nil}
-use Prim.Native.Nat.{ℕ, suc, ◌+◌, ◌-◌, ◌*◌, ◌/◌, ◌%◌, ◌^◌, ◌≤◌, ◌<◌}
+use Prim.Native.Nat.{ℕ, ◌+◌, ◌-◌, ◌*◌, ◌/◌, ◌%◌, ◌^◌, ◌≤◌, ◌<◌}
 use native.Mathlib.Nat.{zero-add}
 use native.Mathlib.Omega.{arith}
-use lib.ListN.{length, set, replicate, length-append, length-replicate, replicate-append-replicate}
-use lib.Seq.{set_at, drop_at}
-use Rattle.words.specs.Words.{bytes_of, bytes_of_all, words_of, put_word}
-use Rattle.words.proofs.Filling.{word_more}
+use lib.ListN.{length, set, length-set, replicate, length-append, length-replicate, replicate-append-replicate, take}
+use Rattle.std.proofs.lemmas.List.{drop-set}
+use lib.Seq.{drop_at}
+use lib.Seq.{take_all}
+use Rattle.words.specs.Words.{bytes_of, bytes_of_all, words_of, put_word, with_bytes}
+use Rattle.words.proofs.Filling.{word_more, drop-replicate}
 use Rattle.words.proofs.Inside.{words_front}
+use Rattle.words.proofs.Runs.{place-front}
 use Rattle.sha256.specs.Constants.{H⁰}
 use Rattle.sha256.specs.Block.{block}
 use Rattle.hash.specs.Padding.{pad, last_block}
@@ -53,7 +56,7 @@ sha256-after a m e h =
       drop_at a (last_block 64 m) 64 e,
     )
 
--- The last block as the code makes it: the message in a buffer of zeros, the byte 80h behind it, the length in the last word.
+-- The last block as the code makes it: in a buffer of zeros the byte 80h, the message in front of it, the length in the last word.
 
 marked : List ℕ → List ℕ
 marked m = m ++ (0x80 ∷ replicate (59 - length m) 0)
@@ -62,13 +65,17 @@ length_marked : (m : List ℕ) → length m ≤ 55 → length (marked m) ≡ 60
 unfolding marked
 length_marked m h = simp (length-append, length-replicate) (omega arith)
 
-mark : (m : List ℕ) → length m ≤ 55 → set (m ++ replicate (64 - length m) 0) (length m) 0x80 ≡ marked m ++ replicate 4 0
+mark : (m : List ℕ) → length m ≤ 55 → with_bytes (set (replicate 64 0) (length m) 0x80) 0 m ≡ marked m ++ replicate 4 0
 unfolding marked
 mark m h =
-    let room : 64 - length m ≡ suc (59 - length m + 4) = omega arith in
-    rw (
+    let z : List ℕ = replicate 64 0 in
+    let here : length m < length z = omega arith in
+    let room : 64 - (length m + 1) ≡ 59 - length m + 4 = omega arith in
+    place-front (set z (length m) 0x80) m (simp length-set (omega arith))
+    ∙ rw (
+      drop-set z (length m) 0x80 here,
+      drop-replicate (length m + 1) 64 0,
       room,
-      set_at m 0 (replicate (59 - length m + 4) 0) 0x80 (length m) refl,
       ← replicate-append-replicate {A = ℕ} (59 - length m) 4 0,
     )
     (sym (append_assoc m (0x80 ∷ replicate (59 - length m) 0) (replicate 4 0)))
@@ -83,7 +90,7 @@ marked_last before m b h =
 
 pub last_block_lem :
     (before : ℕ) (m : List ℕ) → before < 256 → length m ≤ 55 →
-    put_word (set (m ++ replicate (64 - length m) 0) (length m) 0x80) 60 (8 * (before + length m)) ≡ last_block before m
+    put_word (with_bytes (set (replicate 64 0) (length m) 0x80) 0 m) 60 (8 * (before + length m)) ≡ last_block before m
 last_block_lem before m b h =
     rw (
       mark m h,
@@ -91,3 +98,7 @@ last_block_lem before m b h =
       append-nil (marked m ++ bytes_of (8 * (before + length m))),
     )
     (marked_last before m b h)
+
+-- the same as it is computed, of a last block that is the only one
+pub one_block : (m : List ℕ) → length m ≤ 55 → bytes_of_all (block H⁰ (words_of 16 (last_block 0 (take 55 m)))) ≡ sha256 m
+one_block m h = rw (take_all 55 m h) (sym (sha256_short m h))

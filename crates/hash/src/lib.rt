@@ -5,64 +5,44 @@
 
 #![tactic(auto)]
 
-ghost use Rattle.std.specs.Prelude.{◌≡◌, ◌≤◌, ◌-◌, ◌++◌, length, take, replicate};
+ghost use Rattle.std.specs.Prelude.{◌≡◌, ◌≤◌, length, take};
 ghost use Rattle.words.specs.Words.{words_of, bytes_of_all};
 ghost use Rattle.hash.specs.Padding.{last_block};
-ghost use Rattle.hash.specs.Answer.{done, refused, hash_answer};
+ghost use Rattle.hash.specs.Answer.{answer_of, hash_answer};
 
-// An answer with a digest by value: number 0 if done; if refused the refusal's number, and a digest of zeros.
-#[derive(Clone, Copy)]
-pub struct Answer {
-    pub number: u32,
-    pub digest: [u8; 32],
-}
+use refusals::Refusal;
 
 // The bytes of the chaining words, in order.
 pub fn digest(h: [u32; 8]) -> [u8; 32]
     ensures { result ≡ bytes_of_all h }
 {
-    let mut d = [0u8; 32];
-    let mut i = 0;
-    while i < 8 {
-        words::put(&mut d, 4 * i, h[i]);
-        i += 1;
+    let mut d = [0; 32];
+    for (i, w) in h.iter().enumerate() {
+        words::put(&mut d, 4 * i, *w);
     }
     d
 }
 
 // The sixteen words of a block.
+#[tactic(auto, using(words::proofs::Fields::words_inside))]
 pub fn words_of(b: [u8; 64]) -> [u32; 16]
     ensures { result ≡ words_of 16 b }
 {
-    let mut m = [0u32; 16];
-    let mut i = 0;
-    while i < 16 {
-        m[i] = words::get(&b, 4 * i);
-        i += 1;
-    }
-    m
-}
-
-// The message at the front of a block, the rest still 0.
-fn copied(message: &[u8]) -> [u8; 64]
-    requires { length message.now ≤ 55 }
-    ensures { result ≡ message.now ++ replicate (64 - length message.now) 0 }
-{
-    let mut b = [0u8; 64];
-    words::place(message, 0, &mut b);
-    b
+    words::words_at(&b, 0)
 }
 
 // The bytes of the last block of a message: the message, 80h, zeros, and the whole length in bits, that of the bytes
-// before included.
+// before included. 80h is stored first: where a copy follows zeros at once, the compiler calls memset for the zeros that
+// are left, and the host's library uses memcpy alone.
 fn padded(before: u8, message: &[u8]) -> [u8; 64]
     requires { length message.now ≤ 55 }
     ensures { result ≡ last_block before message.now }
 {
     let n = message.len();
     let bits = 8 * (before as usize + n);
-    let mut b = copied(message);
+    let mut b = [0; 64];
     b[n] = 0x80;
+    words::place(message, 0, &mut b);
     words::put(&mut b, 60, bits as u32);
     b
 }
@@ -78,34 +58,14 @@ pub fn last_block(before: u8, message: &[u8]) -> [u32; 16]
     words_of(padded(before, &message[..55]))
 }
 
-// The answer of a call that is done.
-pub fn done(digest: [u8; 32]) -> Answer
-    ensures { result ≡ done digest }
-{
-    Answer {
-        number: 0,
-        digest: digest,
-    }
-}
-
-// The answer of a refused call.
-pub fn refused(number: u32) -> Answer
-    ensures { result ≡ refused number }
-{
-    Answer {
-        number: number,
-        digest: [0u8; 32],
-    }
-}
-
 // SHA-256 of a message. Refusal 11: it is above 55 bytes.
-#[tactic(auto, unfolding(crate::specs::Answer::hash_answer, words::specs::Rows::first_of, words::specs::Choice::pick))]
-pub fn hash(message: &[u8]) -> Answer
-    ensures { result ≡ hash_answer message.now }
+#[tactic(auto, unfolding(crate::specs::Answer::hash_answer, words::specs::Rows::first_of, words::specs::Choice::pick), using(crate::proofs::OneBlock::one_block))]
+pub fn hash(message: &[u8]) -> Result<[u8; 32], Refusal>
+    ensures { answer_of result ≡ hash_answer message.now }
 {
     if 55 < message.len() {
-        return refused(11);
+        return Err(Refusal::MessageLength);
     }
     let h = sha256::block(sha256::initial(), last_block(0, message));
-    done(digest(h))
+    Ok(digest(h))
 }

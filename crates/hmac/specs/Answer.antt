@@ -1,8 +1,7 @@
 -- Document 01, refusals 6 and 11 of the HMAC, in this order; digest by value, zeros if refused. Assumes nothing.
 use Rattle.std.specs.Prelude.{ℕ, not, List, [], ◌∷◌, eqb, ltb, length}
 use Rattle.words.specs.Rows.{◌gives◌, first_of}
-use Rattle.hash.specs.declared.Answer.{Answer}
-use Rattle.hash.specs.Answer.{done, refused}
+use Rattle.hash.specs.Answer.{Answer, done, refused}
 use Rattle.hmac.specs.Hmac.{HMAC}
 
 -- 6: the key is not 32 bytes; 11: the message is above 55 bytes

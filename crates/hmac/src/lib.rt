@@ -7,10 +7,11 @@
 
 ghost use Rattle.std.specs.Prelude.{◌≡◌, length};
 ghost use Rattle.words.specs.Words.{bytes_of_all};
+ghost use Rattle.hash.specs.Answer.{answer_of};
 ghost use Rattle.hmac.specs.Quarters.{key_block, text_block, block_of, start_of, chain_after};
 ghost use Rattle.hmac.specs.Answer.{hmac_answer};
 
-use hash::Answer;
+use refusals::Refusal;
 
 // The four blocks of an HMAC, in their order.
 #[derive(Clone, Copy)]
@@ -21,25 +22,13 @@ pub enum Quarter {
     InnerDigest,
 }
 
-// A lent key by value.
-fn key_of(key: &[u8]) -> [u8; 32]
-    requires { length key.now ≡ 32 }
-    ensures { result ≡ key.now }
-{
-    let mut k = [0u8; 32];
-    words::copy(key, 0, &mut k);
-    k
-}
-
 // The block of a key: its bytes and zeros up to 64, each xored with the pad.
 fn key_block(key: [u8; 32], pad: u8) -> [u32; 16]
     ensures { result ≡ key_block pad key }
 {
     let mut b = [pad; 64];
-    let mut i = 0;
-    while i < 32 {
-        b[i] = key[i] ^ pad;
-        i += 1;
+    for (i, byte) in key.iter().enumerate() {
+        b[i] = *byte ^ pad;
     }
     hash::words_of(b)
 }
@@ -73,14 +62,13 @@ fn quarter_start(q: Quarter, chain: [u32; 8]) -> [u32; 8]
     ensures { result ≡ start_of q chain }
 {
     match q {
-        Quarter::KeyIpad => sha256::initial(),
-        Quarter::Message => chain,
-        Quarter::KeyOpad => sha256::initial(),
-        Quarter::InnerDigest => chain,
+        Quarter::KeyIpad | Quarter::KeyOpad => sha256::initial(),
+        Quarter::Message | Quarter::InnerDigest => chain,
     }
 }
 
 // The chaining words after a quarter: one SHA-256 block.
+#[tactic(auto, unfolding(crate::specs::Quarters::chain_after))]
 pub fn chain_after(
     q: Quarter,
     key: [u8; 32],
@@ -97,20 +85,20 @@ pub fn chain_after(
 
 // The HMAC of a message under a key. Refusal 6: the key is not 32 bytes; 11: the message is above 55 bytes.
 #[tactic(auto, unfolding(crate::specs::Answer::hmac_answer, words::specs::Rows::first_of, words::specs::Choice::pick))]
-pub fn hmac(key: &[u8], message: &[u8]) -> Answer
-    ensures { result ≡ hmac_answer key.now message.now }
+pub fn hmac(key: &[u8], message: &[u8]) -> Result<[u8; 32], Refusal>
+    ensures { answer_of result ≡ hmac_answer key.now message.now }
 {
     if key.len() != 32 {
-        return hash::refused(6);
+        return Err(Refusal::InputLength);
     }
     if 55 < message.len() {
-        return hash::refused(11);
+        return Err(Refusal::MessageLength);
     }
-    let k = key_of(key);
+    let k = words::part(key, 0);
     let any = sha256::initial();
     let key_ipad = chain_after(Quarter::KeyIpad, k, message, any, any);
     let inner = chain_after(Quarter::Message, k, message, key_ipad, any);
     let key_opad = chain_after(Quarter::KeyOpad, k, message, any, any);
     let outer = chain_after(Quarter::InnerDigest, k, message, key_opad, inner);
-    hash::done(hash::digest(outer))
+    Ok(hash::digest(outer))
 }

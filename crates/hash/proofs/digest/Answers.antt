@@ -11,14 +11,14 @@ use Rattle.hash.proofs.digest.Goals as goal
 
 pub loop-i-init : goal.loop-i-init
 unfolding spread
-loop-i-init c = (omega arith, refl, refl)
+loop-i-init c = (refl, refl)
 
 pub loop-i-preserved : goal.loop-i-preserved
 loop-i-preserved c =
     let i = c.loop-i.i in
-    (omega arith, omega arith, c.put.ensures ∙ put_inside c.loop-i.d (4 * i) (omega arith) _ ∙ rw c.loop-i.invariant.2 (words_more c.args.h _ i (omega arith) (omega arith)))
+    (omega arith, c.put.ensures ∙ put_inside c.loop-i.d (4 * i) (omega arith) _ ∙ rw c.loop-i.invariant.1 (words_more c.args.h _ i (omega arith) (omega arith)))
 
 pub returns : goal.returns
 returns c =
     let e : c.loop-i.i ≡ 8 = omega arith in
-    rw e at c.loop-i.invariant.2 ∙ rw (take_all 8 c.args.h (omega arith)) (append-nil _)
+    rw e at c.loop-i.invariant.1 ∙ rw (take_all 8 c.args.h (omega arith)) (append-nil _)

@@ -6,6 +6,7 @@ use mathlib.Core.Path.{◌≡◌, ap, sym}
 use lib.ListN.{length}
 use Rattle.hash.specs.Answer.{done}
 use Rattle.words.specs.Choice.{pick}
+use Rattle.words.proofs.Fields.{field-all}
 use Rattle.words.specs.Rows.{first_of}
 use Rattle.hmac.specs.Answer.{hmac_answer}
 use Rattle.hmac.proofs.FourBlocks.{four_blocks}
@@ -22,12 +23,12 @@ returns c =
     rw (
       eq-eqb (length key) 32 key-32,
       le-ltb 55 (length message) short,
-      c.done.ensures,
       c.digest.ensures,
       c.chain_after-outer.ensures,
       c.chain_after-key_opad.ensures,
       c.chain_after-inner.ensures,
       c.chain_after-key_ipad.ensures,
-      c.key_of-k.ensures,
+      c.part-k.ensures,
+      field-all 32 key key-32,
     )
     (ap done (sym (four_blocks key message any any any any any key-32 short)))

@@ -8,10 +8,10 @@ use Rattle.hmac.proofs.key_block.Goals as goal
 
 pub loop-i-preserved : goal.loop-i-preserved
 loop-i-preserved c =
-    (omega arith, rw c.loop-i.invariant.1 (xor_more _ c.args.key _ c.loop-i.i (omega arith) (omega arith)))
+    rw c.loop-i.invariant (xor_more _ c.args.key _ c.loop-i.i (omega arith) (omega arith))
 
 pub returns : goal.returns
 returns c =
     let key = c.args.key in
     let e : c.loop-i.i ≡ 32 = omega arith in
-    c.words_of.ensures ∙ ap (words_of 16) (rw e at c.loop-i.invariant.1 ∙ rw (take_all 32 key (omega arith)) (key_xored _ key (omega arith)))
+    c.words_of.ensures ∙ ap (words_of 16) (rw e at c.loop-i.invariant ∙ rw (take_all 32 key (omega arith)) (key_xored _ key (omega arith)))
