@@ -4,9 +4,12 @@
 
 ghost use Rattle.std.specs.Prelude.{◌≡◌, ◌<◌, ◌≤◌, ◌^◌, drop};
 ghost use Rattle.words.specs.Rows.{first_failing};
+ghost use Rattle.refusals.specs.Numbers.{number_of};
 ghost use Rattle.image.specs.Header.{count, slot_at};
 ghost use Rattle.image.specs.Refusal.{is_size, refusals, refusal};
 ghost use Rattle.image.specs.Slot.{slot_of, is_state, is_bad, root_key};
+
+use refusals::Refusal;
 
 // The three words of a slot that are no key.
 #[derive(Clone, Copy)]
@@ -17,6 +20,7 @@ pub struct Slot {
 }
 
 // Whether there are slots of so many bytes.
+#[tactic(auto, unfolding(crate::specs::Refusal::is_size))]
 fn is_size(size: u32) -> bool
     ensures { result ≡ is_size size }
 {
@@ -25,37 +29,27 @@ fn is_size(size: u32) -> bool
 
 // Refusal 3, of the four words of the header; the sum is exact, in 64 bits.
 #[tactic(auto, unfolding(words::specs::Rows::first_of, words::specs::Rows::any_of, words::specs::Choice::pick))]
-fn layout_refusal(count: u32, offset: u32, size: u32, total: u32) -> u32
-    requires { count ≤ 4 }
-    ensures { result ≡ first_failing (drop 2 (refusals total count offset size total)) }
+fn layout_accepted(count: u32, offset: u32, size: u32, total: u32) -> Result<(), Refusal>
+    ensures { number_of result ≡ first_failing (drop 2 (refusals total count offset size total)) }
 {
-    if offset < 16 {
-        return 3;
-    }
-    if offset % 4 != 0 {
-        return 3;
-    }
-    if !is_size(size) {
-        return 3;
+    if offset < 16 || offset % 4 != 0 || !is_size(size) {
+        return Err(Refusal::Layout);
     }
     if (total as u64) < offset as u64 + size as u64 * count as u64 {
-        return 3;
+        return Err(Refusal::Layout);
     }
-    0
+    Ok(())
 }
 
 // Refusals 2 and 3, of the four words of the header.
 #[tactic(auto, unfolding(words::specs::Rows::first_of, words::specs::Rows::any_of, words::specs::Choice::pick))]
-fn header_refusal(count: u32, offset: u32, size: u32, total: u32) -> u32
-    ensures { result ≡ first_failing (drop 1 (refusals total count offset size total)) }
+fn header_accepted(count: u32, offset: u32, size: u32, total: u32) -> Result<(), Refusal>
+    ensures { number_of result ≡ first_failing (drop 1 (refusals total count offset size total)) }
 {
-    if count == 0 {
-        return 2;
+    if count == 0 || 4 < count {
+        return Err(Refusal::CounterCount);
     }
-    if 4 < count {
-        return 2;
-    }
-    layout_refusal(count, offset, size, total)
+    layout_accepted(count, offset, size, total)
 }
 
 // The number of counters: word 0 of the header.
@@ -65,21 +59,19 @@ pub fn count(image: &[u8]) -> u32
     words::get(image, 0)
 }
 
-// Refusals 1 to 3, in order; 0 if the image is accepted. What is too short is told before a word is read.
-pub fn refusal(image: &[u8]) -> u32
-    ensures { result ≡ refusal image.now }
+// Refusals 1 to 3, in order. What is too short is told before a word is read.
+#[tactic(auto, unfolding(crate::specs::Refusal::refusal, words::specs::Rows::first_of, words::specs::Rows::any_of, words::specs::Choice::pick))]
+pub fn accepted(image: &[u8]) -> Result<(), Refusal>
+    ensures { number_of result ≡ refusal image.now }
 {
-    if image.len() < 16 {
-        return 1;
-    }
-    if 65536 < image.len() {
-        return 1;
+    if image.len() < 16 || 65536 < image.len() {
+        return Err(Refusal::ImageLength);
     }
     let total = words::get(image, 12);
     if total as usize != image.len() {
-        return 1;
+        return Err(Refusal::ImageLength);
     }
-    header_refusal(
+    header_accepted(
         count(image),
         words::get(image, 4),
         words::get(image, 8),
@@ -95,6 +87,7 @@ pub fn slot_at(image: &[u8], counter: u8) -> usize
 }
 
 // The slot of a counter.
+#[tactic(auto, unfolding(crate::specs::Slot::slot_of))]
 pub fn slot_of(image: &[u8], counter: u8) -> Slot
     ensures { result ≡ slot_of image.now counter }
 {
@@ -107,27 +100,20 @@ pub fn slot_of(image: &[u8], counter: u8) -> Slot
 }
 
 // Whether a word is one of the two state words.
+#[tactic(auto, unfolding(words::specs::Choice::pick))]
 fn is_state(word: u32) -> bool
     ensures { result ≡ is_state word }
 {
-    if word == 0 {
-        return true;
-    }
-    word == 0xFFFFFFFF
+    word == 0 || word == 0xFFFFFFFF
 }
 
 // Whether a slot is bad.
+#[tactic(auto, unfolding(crate::specs::Slot::is_bad, words::specs::Choice::pick))]
 pub fn is_bad(slot: Slot) -> bool
     ensures { result ≡ is_bad slot }
 {
-    let root = slot.root_state;
-    let counter = slot.counter_state;
-    if is_state(root) {
-        if is_state(counter) {
-            return root == 0 && counter != 0;
-        }
-    }
-    true
+    let unpaired = slot.root_state == 0 && slot.counter_state != 0;
+    !is_state(slot.root_state) || !is_state(slot.counter_state) || unpaired
 }
 
 // The root key in use of a counter.
@@ -137,9 +123,7 @@ pub fn root_key(image: &[u8], counter: u8) -> [u8; 32]
 {
     let at = slot_at(image, counter);
     if words::get(image, at) != 0 {
-        return [255u8; 32];
+        return [255; 32];
     }
-    let mut key = [0u8; 32];
-    words::copy(image, at + 16, &mut key);
-    key
+    words::part(image, at + 16)
 }

@@ -1,12 +1,13 @@
 -- One answer only, for each public function of this crate. Assumes nothing.
 use mathlib.Core.Path.{sym, ◌∙◌}
 use Rattle.words.proofs.Unique.{OneResult}
+use Rattle.refusals.proofs.Numbers.{one_outcome}
 use Rattle.state.proofs.no_reply.Reads as no-reply-reads
 use Rattle.state.proofs.power_on.Reads as power-on-reads
 use Rattle.state.proofs.session_key.Reads as session-key-reads
 use Rattle.state.proofs.posted.Reads as posted-reads
 use Rattle.state.proofs.is_running.Reads as is-running-reads
-use Rattle.state.proofs.refusal.Reads as refusal-reads
+use Rattle.state.proofs.accepted.Reads as accepted-reads
 
 no_reply_one : OneResult no-reply-reads.Post
 no_reply_one κs a x y s t p q = p ∙ sym q
@@ -23,5 +24,5 @@ posted_one κs a x y s t p q = p ∙ sym q
 is_running_one : OneResult is-running-reads.Post
 is_running_one κs a x y s t p q = p ∙ sym q
 
-refusal_one : OneResult refusal-reads.Post
-refusal_one κs a x y s t p q = p ∙ sym q
+accepted_one : OneResult accepted-reads.Post
+accepted_one κs a x y s t p q = one_outcome x y (p ∙ sym q)

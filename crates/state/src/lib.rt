@@ -5,13 +5,17 @@
 #![tactic(auto)]
 
 ghost use Rattle.std.specs.Prelude.{◌≡◌, get_or};
+ghost use Rattle.refusals.specs.Numbers.{number_of};
 ghost use Rattle.state.specs.Parts.{no_key, no_reply, no_job, power_on, session_key, posted};
 ghost use Rattle.state.specs.Refusal.{is_running, job_refusal, device_refusal};
 
 use frames::Reply;
 use jobs::Kind;
+use refusals::Refusal;
 
 // A session key, or that there is none.
+//
+// kept: no Option, here and in Job, since a caller may hand in bytes with the flag off, and has them back as they were.
 #[derive(Clone, Copy)]
 pub struct Key {
     pub there: bool,
@@ -52,7 +56,7 @@ fn no_key() -> Key
 {
     Key {
         there: false,
-        bytes: [0u8; 32],
+        bytes: [0; 32],
     }
 }
 
@@ -62,7 +66,7 @@ pub fn no_reply() -> Reply
 {
     Reply {
         there: false,
-        bytes: [0u8; 48],
+        bytes: [0; 48],
     }
 }
 
@@ -75,10 +79,10 @@ fn no_job() -> Job
         kind: Kind::TemporaryKey,
         counter: 0,
         step: 0,
-        frame: [0u8; 64],
-        root_key: [0u8; 32],
-        made: [0u8; 32],
-        inner: [0u32; 8],
+        frame: [0; 64],
+        root_key: [0; 32],
+        made: [0; 32],
+        inner: [0; 8],
         kept: 0,
     }
 }
@@ -87,81 +91,57 @@ fn no_job() -> Job
 pub fn power_on() -> State
     ensures { result ≡ power_on }
 {
-    let key = no_key();
     State {
         status: 0x00,
-        keys: [key; 4],
+        keys: [no_key(); 4],
         reply: no_reply(),
         enabled: false,
-        chain: [0u32; 8],
+        chain: [0; 8],
         job: no_job(),
     }
-}
-
-// The key at a place among the four; none past them.
-#[tactic(auto, using(crate::proofs::Inside::no_key_lem))]
-fn key_at(keys: [Key; 4], place: u8) -> Key
-    ensures { result ≡ get_or keys place no_key }
-{
-    if 3 < place {
-        return no_key();
-    }
-    keys[place as usize]
 }
 
 // The session key of a counter; none where there is no such counter.
 pub fn session_key(s: State, counter: u8) -> Key
     ensures { result ≡ session_key s counter }
 {
-    let keys = s.keys;
-    key_at(keys, counter)
+    s.keys.get(counter as usize).copied().unwrap_or(no_key())
 }
 
 // The state with a status posted: the job has ended.
 pub fn posted(s: State, status: u8) -> State
     ensures { result ≡ posted s status }
 {
-    let mut t = s;
-    t.status = status;
-    t.job = no_job();
-    t
+    State {
+        status,
+        job: no_job(),
+        ..s
+    }
 }
 
 // Whether a job runs: it is there, and a step is left of it.
+#[tactic(auto, unfolding(crate::specs::Refusal::is_running, words::specs::Choice::pick))]
 pub fn is_running(s: State) -> bool
     ensures { result ≡ is_running s }
 {
-    let job = s.job;
-    if job.there {
-        let kind = job.kind;
-        return job.step < jobs::length_of(kind);
-    }
-    false
+    s.job.there && s.job.step < jobs::length_of(s.job.kind)
 }
 
 // Refusal 4, of the image's count and the state.
-fn job_refusal(count: u32, s: State) -> u32
-    ensures { result ≡ job_refusal count s }
+#[tactic(auto, unfolding(crate::specs::Refusal::job_refusal, words::specs::Rows::first_of, words::specs::Rows::any_of, words::specs::Choice::pick))]
+fn job_accepted(count: u32, s: State) -> Result<(), Refusal>
+    ensures { number_of result ≡ job_refusal count s }
 {
-    let job = s.job;
-    if job.there {
-        if (job.counter as u32) < count {
-            if is_running(s) {
-                return 0;
-            }
-        }
-        return 4;
+    if s.job.there && (count <= s.job.counter as u32 || !is_running(s)) {
+        return Err(Refusal::Job);
     }
-    0
+    Ok(())
 }
 
-// Refusals 1 to 4, in order; 0 if the call is accepted.
-pub fn refusal(image: &[u8], s: State) -> u32
-    ensures { result ≡ device_refusal image.now s }
+// Refusals 1 to 4, in order.
+pub fn accepted(image: &[u8], s: State) -> Result<(), Refusal>
+    ensures { number_of result ≡ device_refusal image.now s }
 {
-    let number = image::refusal(image);
-    if number != 0 {
-        return number;
-    }
-    job_refusal(image::count(image), s)
+    image::accepted(image)?;
+    job_accepted(image::count(image), s)
 }
