@@ -24,44 +24,28 @@ pub enum Class {
 fn named_class(first: u8, size: usize) -> Class
     ensures { result ≡ named_class first size }
 {
-    if first == 0x66 {
-        if size == 1 {
-            return Class::EnableReset;
-        }
-        return Class::Unnamed;
+    match (first, size) {
+        (0x66, 1) => Class::EnableReset,
+        (0x99, 1) => Class::Reset,
+        (0x96, 2) => Class::Read,
+        (0x9B, 2..) => Class::CommandFrame,
+        _ => Class::Unnamed,
     }
-    if first == 0x99 {
-        if size == 1 {
-            return Class::Reset;
-        }
-        return Class::Unnamed;
-    }
-    if first == 0x96 {
-        if size == 2 {
-            return Class::Read;
-        }
-        return Class::Unnamed;
-    }
-    if first == 0x9B {
-        if 1 < size {
-            return Class::CommandFrame;
-        }
-        return Class::Unnamed;
-    }
-    Class::Unnamed
 }
 
 // The class of a frame.
+#[tactic(auto, unfolding(crate::specs::Classes::class_of, words::specs::Choice::pick))]
 pub fn class_of(frame: &[u8]) -> Class
     ensures { result ≡ class_of frame.now }
 {
-    if frame.len() == 0 {
-        return Class::Empty;
+    match frame {
+        [] => Class::Empty,
+        [first, ..] => named_class(*first, frame.len()),
     }
-    named_class(words::byte(frame, 0), frame.len())
 }
 
 // The reply of a request, or that there is none; its bytes are then zeros.
+// kept: no Option, since a caller may hand in bytes with the flag off, and has them back as they were.
 #[derive(Clone, Copy)]
 pub struct Reply {
     pub there: bool,
@@ -76,25 +60,18 @@ fn read_byte(busy: bool, status: u8, reply: Reply, i: usize) -> u8
     if busy {
         return 0x01;
     }
-    if i == 0 {
-        return status;
+    match i {
+        0 => status,
+        1..49 if reply.there => reply.bytes[i - 1],
+        _ => 0xFF,
     }
-    if reply.there {
-        if i < 49 {
-            return reply.bytes[i - 1];
-        }
-        return 0xFF;
-    }
-    0xFF
 }
 
 // The read: fills the whole output buffer, of any length.
 pub fn fill_read(busy: bool, status: u8, reply: Reply, out: &mut [u8])
     ensures { out.new ≡ read_output busy status reply (length out.old) }
 {
-    let mut i = 0;
-    while i < out.len() {
-        out[i] = read_byte(busy, status, reply, i);
-        i += 1;
+    for (i, byte) in out.iter_mut().enumerate() {
+        *byte = read_byte(busy, status, reply, i);
     }
 }

@@ -1,9 +1,10 @@
 -- Document 01, "Steps": the seven kinds of job, their lengths, and the commands that they belong to. Assumes nothing.
-use Rattle.std.specs.Prelude.{ℕ, max, Bool, List, [], ◌∷◌, eqb}
+use Rattle.std.specs.Prelude.{◌≡◌, ℕ, ◌<◌, max, Bool, List, [], ◌∷◌, eqb, Result, MatchResult}
 use Rattle.words.specs.Choice.{pick}
 use Rattle.image.specs.Slot.{is_set}
 use Rattle.jobs.specs.declared.Command.{Command}
 use Rattle.jobs.specs.declared.Command.TheVariants.{WriteRootKey, UpdateSessionKey, IncrementCounter, RequestCounter}
+use Rattle.jobs.specs.declared.UnknownType.{UnknownType}
 use Rattle.jobs.specs.declared.Kind.{Kind}
 use Rattle.jobs.specs.declared.Kind.TheVariants.{RootKeyAndCounter, RootKey, SessionKey, Increment, Request, TemporaryKeyAndCounter, TemporaryKey}
 
@@ -46,6 +47,10 @@ command_type WriteRootKey = 0
 command_type UpdateSessionKey = 1
 command_type IncrementCounter = 2
 command_type RequestCounter = 3
+
+-- what the type of a frame says: the command of this type, or that no command has it
+abbrev pub IsTyped : ℕ → Result Command UnknownType → Type 0
+IsTyped type r = MatchResult r (λ command. command_type command ≡ type) (λ unknown. 3 < type)
 
 -- a signature check takes 4 blocks; type 01 takes 8, key first. Checks 8 to 10 are made in the last of these steps
 abbrev pub signature_steps : Command → ℕ
