@@ -1,13 +1,12 @@
 // Checks 8 to 10, made in the last step of a signature check.
 //
 // The digest is secret until it is compared, and compared at every word, whatever is found: which words differ picks no branch
-// and no index. A status of 0 says that no check failed.
+// and no index.
 
 #![tactic(auto)]
 
 ghost use Rattle.std.specs.Prelude.{◌≡◌, false, ◌+◌, ◌≤◌};
 ghost use Rattle.words.specs.Words.{words_of, word_or0};
-ghost use Rattle.words.specs.Choice.{or_else};
 ghost use Rattle.words.specs.Table.{field};
 ghost use Rattle.words.specs.Rows.{first_failing};
 ghost use Rattle.compare.specs.Compare.{differences};
@@ -15,8 +14,10 @@ ghost use Rattle.jobs.specs.Jobs.{command_type};
 ghost use Rattle.decision.specs.Place.{signature_at};
 ghost use Rattle.decision.specs.Signature.{signature_holds};
 ghost use Rattle.checks.specs.Checks.{signature_checks, value_checks};
+ghost use Rattle.checks.specs.Failures.{status, status_of};
 ghost use Rattle.decision.specs.Decision.{decision};
 
+use checks::Failure;
 use jobs::Command;
 
 // Where the 32 bytes of a signature start in a frame. Of type 00 the first 4 are not there: the key sent ends in their place.
@@ -37,10 +38,8 @@ fn last_difference(digest: [u8; 32], frame: [u8; 64], at: usize) -> u32
     ensures { result ≡ differences 7 (words_of 7 (field 4 28 digest)) (words_of 7 (field (at + 4) 28 frame)) }
 {
     let mut d = 0;
-    let mut i = 0;
-    while i < 7 {
-        d = d | (words::get(&digest, 4 + 4 * i) ^ words::get(&frame, at + 4 + 4 * i));
-        i += 1;
+    for i in 0..7 {
+        d |= words::get(&digest, 4 + 4 * i) ^ words::get(&frame, at + 4 + 4 * i);
     }
     d
 }
@@ -61,68 +60,61 @@ fn signature_holds(command: Command, frame: [u8; 64], digest: [u8; 32]) -> bool
 }
 
 // Check 8, where the signature is wrong.
-fn wrong_signature(command: Command) -> u8
-    ensures { result ≡ first_failing (signature_checks (command_type command) false) }
+#[tactic(auto, unfolding(words::specs::Rows::first_of, words::specs::Choice::pick))]
+fn wrong_signature(command: Command) -> Failure
+    ensures { status result ≡ first_failing (signature_checks (command_type command) false) }
 {
     match command {
-        Command::WriteRootKey => 0x02,
-        Command::UpdateSessionKey => 0x04,
-        Command::IncrementCounter => 0x04,
-        Command::RequestCounter => 0x04,
+        Command::WriteRootKey => Failure::WrongState,
+        _ => Failure::WrongFrame,
     }
 }
 
 // Check 8.
-fn signature_status(command: Command, frame: [u8; 64], digest: [u8; 32]) -> u8
-    ensures { result ≡ first_failing (signature_checks (command_type command) (signature_holds command frame digest)) }
+#[tactic(auto, unfolding(words::specs::Rows::first_of, words::specs::Choice::pick))]
+fn signature_status(command: Command, frame: [u8; 64], digest: [u8; 32]) -> Result<(), Failure>
+    ensures { status_of result ≡ first_failing (signature_checks (command_type command) (signature_holds command frame digest)) }
 {
     if signature_holds(command, frame, digest) {
-        return 0;
+        return Ok(());
     }
-    wrong_signature(command)
+    Err(wrong_signature(command))
 }
 
 // Checks 9 and 10 of an increment, of the frame's data and the counter value.
 #[tactic(auto, unfolding(words::specs::Rows::first_of, words::specs::Choice::pick))]
-fn increment_status(sent: u32, value: u32) -> u8
-    ensures { result ≡ first_failing (value_checks 2 sent value) }
+fn increment_status(sent: u32, value: u32) -> Result<(), Failure>
+    ensures { status_of result ≡ first_failing (value_checks 2 sent value) }
 {
     if sent != value {
-        return 0x10;
+        return Err(Failure::WrongData);
     }
     if value == 0xFFFFFFFF {
-        return 0x20;
+        return Err(Failure::Fatal);
     }
-    0
+    Ok(())
 }
 
 // Checks 9 and 10: an increment alone has them.
-fn value_status(command: Command, frame: [u8; 64], value: u32) -> u8
-    ensures { result ≡ first_failing (value_checks (command_type command) (word_or0 frame 4) value) }
+#[tactic(auto, unfolding(words::specs::Rows::first_of, words::specs::Choice::pick))]
+fn value_status(command: Command, frame: [u8; 64], value: u32) -> Result<(), Failure>
+    ensures { status_of result ≡ first_failing (value_checks (command_type command) (word_or0 frame 4) value) }
 {
     match command {
-        Command::WriteRootKey => 0,
-        Command::UpdateSessionKey => 0,
         Command::IncrementCounter => increment_status(words::get(&frame, 4), value),
-        Command::RequestCounter => 0,
+        _ => Ok(()),
     }
 }
 
-// The first of two statuses that is not 0.
-fn or_else(status: u8, after: u8) -> u8
-    ensures { result ≡ or_else status after }
+// Checks 8 to 10: the first that fails. The signature decides before the counter data does.
+pub fn decision(
+    command: Command,
+    frame: [u8; 64],
+    digest: [u8; 32],
+    value: u32,
+) -> Result<(), Failure>
+    ensures { status_of result ≡ decision command frame digest value }
 {
-    if status != 0 {
-        return status;
-    }
-    after
-}
-
-// Checks 8 to 10: the status of the first that fails, 0 if none does. The signature decides before the counter data does.
-pub fn decision(command: Command, frame: [u8; 64], digest: [u8; 32], value: u32) -> u8
-    ensures { result ≡ decision command frame digest value }
-{
-    let signature = signature_status(command, frame, digest);
-    let data = value_status(command, frame, value);
-    or_else(signature, data)
+    signature_status(command, frame, digest)?;
+    value_status(command, frame, value)
 }
