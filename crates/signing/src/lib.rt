@@ -4,70 +4,51 @@
 
 #![tactic(auto)]
 
-ghost use Rattle.std.specs.Prelude.{◌≡◌, ◌≤◌, ◌++◌};
+ghost use Rattle.std.specs.Prelude.{◌≡◌, ◌++◌};
 ghost use Rattle.words.specs.Words.{bytes_of};
 ghost use Rattle.words.specs.Table.{field};
 ghost use Rattle.hmac.specs.Quarters.{chain_after};
-ghost use Rattle.signing.specs.Signing.{quarter_of, key_of, message_of};
+ghost use Rattle.signing.specs.Signing.{quarter_of, key_of};
 ghost use Rattle.signing.specs.Hashed.{block_done, inner_after, made_after, with_block, hashed};
 
 use hmac::Quarter;
 use jobs::Command;
-use state::State;
+use state::{Job, State};
 
 // The quarter of an HMAC that a step hashes.
+#[tactic(auto, unfolding(crate::specs::Signing::quarter_of, words::specs::Choice::pick))]
 fn quarter_of(step: u8) -> Quarter
     ensures { result ≡ quarter_of step }
 {
-    let n = step % 4;
-    if n == 0 {
-        return Quarter::KeyIpad;
+    match step % 4 {
+        0 => Quarter::KeyIpad,
+        1 => Quarter::Message,
+        2 => Quarter::KeyOpad,
+        _ => Quarter::InnerDigest,
     }
-    if n == 1 {
-        return Quarter::Message;
-    }
-    if n == 2 {
-        return Quarter::KeyOpad;
-    }
-    Quarter::InnerDigest
 }
 
 // The key that a root key frame sends.
+// kept: no `words::part`, which copies byte by byte: steps 5 to 8 of a session key job then take some 120 instructions more (measured).
 fn key_sent(frame: [u8; 64]) -> [u8; 32]
     ensures { result ≡ field 4 32 frame }
 {
-    let mut key = [0u8; 32];
-    words::place(&frame[4..36], 0, &mut key);
+    let mut key = [0; 32];
+    key.copy_from_slice(&frame[4..36]);
     key
 }
 
 // The key of the HMAC that a job is at.
+#[tactic(auto, unfolding(words::specs::Choice::pick))]
 fn key_of(command: Command, s: State) -> [u8; 32]
     ensures { result ≡ key_of command s }
 {
-    let job = s.job;
     match command {
-        Command::WriteRootKey => {
-            let frame = job.frame;
-            key_sent(frame)
-        }
-        Command::UpdateSessionKey => {
-            let in_use = job.root_key;
-            let new = job.made;
-            if job.step < 4 {
-                return in_use;
-            }
-            new
-        }
-        Command::IncrementCounter => {
-            let key = state::session_key(s, job.counter);
-            let bytes = key.bytes;
-            bytes
-        }
-        Command::RequestCounter => {
-            let key = state::session_key(s, job.counter);
-            let bytes = key.bytes;
-            bytes
+        Command::WriteRootKey => key_sent(s.job.frame),
+        Command::UpdateSessionKey if s.job.step < 4 => s.job.root_key,
+        Command::UpdateSessionKey => s.job.made,
+        Command::IncrementCounter | Command::RequestCounter => {
+            state::session_key(s, s.job.counter).bytes
         }
     }
 }
@@ -76,79 +57,30 @@ fn key_of(command: Command, s: State) -> [u8; 32]
 pub fn tag_and_value(frame: [u8; 64], value: u32) -> [u8; 16]
     ensures { result ≡ field 4 12 frame ++ bytes_of value }
 {
-    let mut m = [0u8; 16];
-    words::place(&frame[4..16], 0, &mut m);
-    words::put(&mut m, 12, value);
-    m
+    let mut message = [0; 16];
+    message[..12].copy_from_slice(&frame[4..16]);
+    message[12..].copy_from_slice(&words::bytes(value));
+    message
 }
 
-// The chaining words after a block of a session key job's HMACs: of the key data under the root key in use, then of the
-// frame under the new session key.
-fn session_block(
-    step: u8,
-    key: [u8; 32],
-    frame: [u8; 64],
-    chain: [u32; 8],
-    inner: [u32; 8],
-) -> [u32; 8]
-    ensures { result ≡ chain_after (quarter_of step) key (message_of Command.UpdateSessionKey step frame 0) chain inner }
-{
-    let quarter = quarter_of(step);
-    if step < 4 {
-        return hmac::chain_after(quarter, key, &frame[4..8], chain, inner);
-    }
-    hmac::chain_after(quarter, key, &frame[0..8], chain, inner)
-}
-
-// The chaining words after a block of a request's HMACs: of the frame, then of the reply.
-fn request_block(
-    step: u8,
-    key: [u8; 32],
-    frame: [u8; 64],
-    kept: u32,
-    chain: [u32; 8],
-    inner: [u32; 8],
-) -> [u32; 8]
-    ensures { result ≡ chain_after (quarter_of step) key (message_of Command.RequestCounter step frame kept) chain inner }
-{
-    let quarter = quarter_of(step);
-    if step < 4 {
-        return hmac::chain_after(quarter, key, &frame[0..16], chain, inner);
-    }
-    let message = tag_and_value(frame, kept);
-    hmac::chain_after(quarter, key, &message, chain, inner)
-}
-
-// The chaining words after a block of the HMAC of the first n bytes of a frame.
-fn front_block(
-    n: usize,
-    step: u8,
-    key: [u8; 32],
-    frame: [u8; 64],
-    chain: [u32; 8],
-    inner: [u32; 8],
-) -> [u32; 8]
-    requires { n ≤ 64 }
-    ensures { result ≡ chain_after (quarter_of step) key (field 0 n frame) chain inner }
-{
-    hmac::chain_after(quarter_of(step), key, &frame[0..n], chain, inner)
-}
-
-// The chaining words of the step's block.
+// The chaining words of the step's block: a session key frame has two HMACs, the first of the key data under the root key in use, and
+// so has a request, the second for its reply.
+#[tactic(auto, unfolding(crate::specs::Hashed::block_done, words::specs::Choice::pick))]
 fn block_done(command: Command, s: State) -> [u32; 8]
     ensures { result ≡ block_done command s }
 {
+    let quarter = quarter_of(s.job.step);
     let key = key_of(command, s);
-    let chain = s.chain;
-    let job = s.job;
-    let step = job.step;
-    let frame = job.frame;
-    let inner = job.inner;
+    let after = |message: &[u8]| -> [u32; 8]
+        ensures { result ≡ chain_after quarter key message.now s.chain s.job.inner }
+    { hmac::chain_after(quarter, key, message, s.chain, s.job.inner) };
+    let frame = s.job.frame;
     match command {
-        Command::WriteRootKey => front_block(4, step, key, frame, chain, inner),
-        Command::UpdateSessionKey => session_block(step, key, frame, chain, inner),
-        Command::IncrementCounter => front_block(8, step, key, frame, chain, inner),
-        Command::RequestCounter => request_block(step, key, frame, job.kept, chain, inner),
+        Command::WriteRootKey => after(&frame[..4]),
+        Command::UpdateSessionKey if s.job.step < 4 => after(&frame[4..8]),
+        Command::UpdateSessionKey | Command::IncrementCounter => after(&frame[..8]),
+        Command::RequestCounter if s.job.step < 4 => after(&frame[..16]),
+        Command::RequestCounter => after(&tag_and_value(frame, s.job.kept)),
     }
 }
 
@@ -157,10 +89,7 @@ fn block_done(command: Command, s: State) -> [u32; 8]
 fn inner_after(step: u8, inner: [u32; 8], chain: [u32; 8]) -> [u32; 8]
     ensures { result ≡ inner_after step inner chain }
 {
-    if step % 4 == 1 {
-        return chain;
-    }
-    inner
+    if step % 4 == 1 { chain } else { inner }
 }
 
 // The session key that a job made, after a block.
@@ -169,41 +98,32 @@ fn made_after(command: Command, step: u8, made: [u8; 32], chain: [u32; 8]) -> [u
     ensures { result ≡ made_after command step made chain }
 {
     match command {
-        Command::WriteRootKey => made,
-        Command::UpdateSessionKey => {
-            if step == 3 {
-                return hash::digest(chain);
-            }
-            made
-        }
-        Command::IncrementCounter => made,
-        Command::RequestCounter => made,
+        Command::UpdateSessionKey if step == 3 => hash::digest(chain),
+        _ => made,
     }
 }
 
 // The state with the chaining words of a block, and what the job keeps of them.
+#[tactic(auto, unfolding(crate::specs::Hashed::with_block))]
 fn with_block(command: Command, s: State, chain: [u32; 8]) -> State
     ensures { result ≡ with_block command s chain }
 {
-    let mut job = s.job;
-    let made = job.made;
-    let made_now = made_after(command, job.step, made, chain);
-    let inner = job.inner;
-    let inner_now = inner_after(job.step, inner, chain);
-    job.made = made_now;
-    job.inner = inner_now;
-    let mut t = s;
-    t.chain = chain;
-    t.job = job;
-    t
+    State {
+        chain,
+        job: Job {
+            made: made_after(command, s.job.step, s.job.made, chain),
+            inner: inner_after(s.job.step, s.job.inner, chain),
+            ..s.job
+        },
+        ..s
+    }
 }
 
 // The state after a hash step.
+#[tactic(auto, unfolding(crate::specs::Hashed::hashed))]
 pub fn hashed(s: State) -> State
     ensures { result ≡ hashed s }
 {
-    let job = s.job;
-    let kind = job.kind;
-    let command = jobs::command_of(kind);
+    let command = Command::from(s.job.kind);
     with_block(command, s, block_done(command, s))
 }

@@ -1,16 +1,15 @@
 -- `tag_and_value` meets its contract: the tag is stored at the front, and the value behind it. Assumes nothing.
 use native.Mathlib.Omega.{arith}
-use Rattle.words.specs.Choice.{pick}
-use Rattle.words.specs.Table.{table}
-use Rattle.words.specs.Words.{put_word}
+use mathlib.Core.Path.{◌≡◌, ◌∙◌}
+use Rattle.words.specs.Words.{bytes_of}
+use Rattle.words.specs.Table.{table, field}
 use Rattle.words.proofs.Fields.{field_part}
 use Rattle.signing.proofs.tag_and_value.Goals as goal
 
 pub returns : goal.returns
-unfolding pick table put_word
+unfolding table
 returns c =
-    let frame = c.args.frame in
-    rw (
-      c.place.ensures,
-      field_part 4 12 frame (omega arith),
-    ) at c.put.ensures
+    let a = c.args in
+    let tag : c.copy_from_slice.new.self ≡ field 4 12 a.frame = c.copy_from_slice.ensures.after ∙ field_part 4 12 a.frame (omega arith) in
+    let value : c.copy_from_slice-2.new.self ≡ bytes_of a.value = c.copy_from_slice-2.ensures.after ∙ c.bytes.ensures in
+    rw (value, tag)
