@@ -1,5 +1,6 @@
 -- `decided` meets its contract: the job goes on only where no check fails. Assumes nothing.
-use Rattle.std.proofs.Common.{arith}
+use Rattle.std.proofs.Common.{ap}
+use Rattle.checks.specs.Failures.{status_of}
 use Rattle.steps.specs.Deciding.{with_kept}
 use Rattle.steps.proofs.Advancing.{last_step, another_step, passed_on}
 use Rattle.steps.proofs.decided.Goals as goal
@@ -11,8 +12,8 @@ is_last-requires c =
 
 pub returns-then-is_last : goal.returns-then-is_last
 returns-then-is_last c =
-    passed_on _ c.with_kept-t.result _ _ _ _ _ c.decision_of-status.ensures (omega arith)
-    c.command_of.ensures c.kept_after-kept.ensures c.with_kept-t.ensures
+    passed_on _ c.with_kept-t.result _ _ _ _ _ c.decision_of.ensures (ap status_of c.in_default.is)
+    c.from-2.ensures c.kept_after-kept.ensures c.with_kept-t.ensures
     (last_step c.with_kept-t.result _ _ c.is_last.ensures c.if-is_last.true c.finished.ensures)
 
 pub with_next-requires : goal.with_next-requires
@@ -22,6 +23,6 @@ with_next-requires c =
 
 pub returns : goal.returns
 returns c =
-    passed_on _ c.with_kept-t.result _ _ _ _ _ c.decision_of-status.ensures (omega arith)
-    c.command_of.ensures c.kept_after-kept.ensures c.with_kept-t.ensures
+    passed_on _ c.with_kept-t.result _ _ _ _ _ c.decision_of.ensures (ap status_of c.in_default.is)
+    c.from-2.ensures c.kept_after-kept.ensures c.with_kept-t.ensures
     (another_step c.with_kept-t.result _ _ c.is_last.ensures c.if-is_last.false c.with_next.ensures)

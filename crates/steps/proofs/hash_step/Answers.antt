@@ -17,7 +17,7 @@ unfolding hash_step pick
 returns-then-next-signature_steps c =
     let a = c.args in
     let hashed-call = c.hashed-t in
-    let command-of = c.command_of in
+    let command-of = c.from in
     let last = c.signature_steps in
     let job = a.s.job in
     rw (
@@ -38,7 +38,7 @@ is_last-requires c =
 pub returns-then-is_last : goal.returns-then-is_last
 returns-then-is_last c =
     let t = c.hashed-t in
-    hashed_on _ _ t.result _ _ _ t.ensures c.command_of.ensures c.signature_steps.ensures
+    hashed_on _ _ t.result _ _ _ t.ensures c.from.ensures c.signature_steps.ensures
     c.if-next-signature_steps.false (last_step t.result _ _ c.is_last.ensures c.if-is_last.true c.finished.ensures)
 
 pub with_next-requires : goal.with_next-requires
@@ -50,5 +50,5 @@ with_next-requires c =
 pub returns : goal.returns
 returns c =
     let t = c.hashed-t in
-    hashed_on _ _ t.result _ _ _ t.ensures c.command_of.ensures c.signature_steps.ensures
+    hashed_on _ _ t.result _ _ _ t.ensures c.from.ensures c.signature_steps.ensures
     c.if-next-signature_steps.false (another_step t.result _ _ c.is_last.ensures c.if-is_last.false c.with_next.ensures)
