@@ -13,10 +13,9 @@ use Rattle.frames.specs.Classes.{class_of}
 use Rattle.state.specs.Parts.{power_on}
 use Rattle.state.specs.Refusal.{device_refusal}
 use Rattle.state.proofs.Refused.{device-refusal}
-use Rattle.device.specs.declared.Answer.{Answer}
 use Rattle.device.specs.Frame.{state_after, output_after}
 use Rattle.device.specs.Work.{Device, run, steps_done}
-use Rattle.device.specs.Calls.{device, powered_up, after_frame, output_after_frame, after_steps, after_work, image_after_work, Call, PowerUp, Frame, Work, after, called}
+use Rattle.device.specs.Calls.{Answer, device, powered_up, after_frame, output_after_frame, after_steps, after_work, image_after_work, Call, PowerUp, Frame, Work, after, called}
 
 -- a power-up changes no byte of the image, and gives the power-on state
 pub any_power_up : (d : Device) → called PowerUp d ≡ device d.image power_on

@@ -4,10 +4,7 @@ use mathlib.Core.Path.{◌≡◌, refl, ap, sym, ◌∙◌}
 use mathlib.Core.Bool.{Bool, true, false}
 use native.Mathlib.Numerals.{add-one}
 use native.Mathlib.Omega.{arith}
-use borrow.Author.Tests.{ltb-false}
-use lib.Dec.{ltb}
 use Rattle.words.specs.Choice.{pick}
-use Rattle.words.proofs.Choice.{never}
 use Rattle.state.specs.Refusal.{is_running}
 use Rattle.jobs.specs.Jobs.{longest}
 use Rattle.jobs.proofs.Longest.{at_most}
@@ -58,17 +55,10 @@ pub run_more : (n : ℕ) (d : Device) → run (n + 1) d ≡ stepped (run n d)
 unfolding run
 run_more n d = rw (add-one n)
 
--- where the work stops, the steps done are the smaller of the quota and the steps that were left
-stopped_by :
-    (steps quota left : ℕ) (d : Device) → steps ≤ quota → steps + steps_left d ≡ left →
-    (more : Bool) → ltb steps quota ≡ more → (runs : Bool) → is_running d.state ≡ runs →
-    pick more runs false ≡ false → steps ≡ min quota left
-unfolding pick
-stopped_by steps quota left d h e true m true r p = absurd (never (sym p))
-stopped_by steps quota left d h e true m false r p = omega (arith, h, e, left_none d r)
-stopped_by steps quota left d h e false m runs r p = omega (arith, h, e, ltb-false steps quota m)
+-- where the work stops, the steps done are the smaller of the quota and the steps that were left: no job runs, or the quota is used up
+module _ (steps quota left : ℕ) (d : Device) (e : steps + steps_left d ≡ left) where
+  pub stopped : steps ≤ quota → is_running d.state ≡ false → steps ≡ min quota left
+  stopped h r = omega (arith, h, e, left_none d r)
 
-pub stopped :
-    (steps quota left : ℕ) (d : Device) → steps ≤ quota → steps + steps_left d ≡ left →
-    pick (ltb steps quota) (is_running d.state) false ≡ false → steps ≡ min quota left
-stopped steps quota left d h e p = stopped_by steps quota left d h e _ refl _ refl p
+  pub used_up : steps ≡ quota → quota ≡ min quota left
+  used_up h = omega (arith, h, e)

@@ -1,19 +1,29 @@
 -- Document 01, "Refusal numbers": the three calls, refused ones too, and what each leaves. Assumes nothing.
 use Rattle.std.specs.Prelude.{ℕ, Bool, List, [], eqb}
 use Rattle.words.specs.Choice.{pick}
+use Rattle.refusals.specs.Numbers.{number_of}
 use Rattle.image.specs.Refusal.{refusal}
 use Rattle.frames.specs.Classes.{class_of}
 use Rattle.state.specs.declared.State.{State}
 use Rattle.state.specs.Parts.{power_on}
 use Rattle.state.specs.Refusal.{device_refusal}
 use Rattle.rules.specs.Whole.{Outcome}
-use Rattle.device.specs.declared.Answer.{Answer}
+use Rattle.device.specs.declared.Answer.{Answer as Given}
 use Rattle.device.specs.Frame.{state_after, output_after}
 use Rattle.device.specs.Work.{Device, run, steps_done}
 
 -- the answer of a call: its number, 0 if it is done, the steps done, and the state afterwards
+pub record Answer : Type 0 where
+  pub number : ℕ
+  pub steps : ℕ
+  pub state : State
+
 abbrev pub answer : ℕ → ℕ → State → Answer
 answer number steps state = record { number = number; steps = steps; state = state }
+
+-- what the code's answer says: it has an outcome, whose number is the answer's
+abbrev pub answer_of : Given → Answer
+answer_of given = answer (number_of given.outcome) given.steps given.state
 
 -- power-up gives the power-on state, refused or not
 unfoldable pub powered_up : List ℕ → Answer

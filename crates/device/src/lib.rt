@@ -5,37 +5,38 @@
 
 #![tactic(auto)]
 
-ghost use Rattle.std.specs.Prelude.{◌≡◌, ltb, false, []};
-ghost use Rattle.words.specs.Choice.{pick};
-ghost use Rattle.state.specs.Refusal.{is_running};
+ghost use Rattle.std.specs.Prelude.{◌≡◌, []};
+ghost use Rattle.refusals.specs.Numbers.{number_of};
 ghost use Rattle.device.specs.Frame.{with_enabled, state_after, output_after};
 ghost use Rattle.device.specs.Work.{run, steps_done};
-ghost use Rattle.device.specs.Calls.{device, answer, powered_up, after_frame, output_after_frame, after_steps, after_work, image_after_work};
+ghost use Rattle.device.specs.Calls.{device, answer, answer_of, powered_up, after_frame, output_after_frame, after_steps, after_work, image_after_work};
 
 use frames::Class;
+use refusals::Refusal;
 use state::State;
 
-// The number of a call that is done.
-const DONE: u32 = 0;
+// The outcome of a call that is not refused.
+const DONE: Result<(), Refusal> = Ok(());
 
-// The answer of a call: its number, 0 if it is done, else the refusal's; the steps done; the state afterwards.
+// The answer of a call: whether it is done, or why it is refused; the steps done; the state afterwards, which a refused call
+// answers too.
 #[derive(Clone, Copy)]
 pub struct Answer {
-    pub number: u32,
+    pub outcome: Result<(), Refusal>,
     pub steps: u32,
     pub state: State,
 }
 
 // The state with reset-enable on or off.
+#[tactic(auto, unfolding(crate::specs::Frame::with_enabled))]
 fn with_enabled(s: State, enabled: bool) -> State
     ensures { result ≡ with_enabled s enabled }
 {
-    let mut t = s;
-    t.enabled = enabled;
-    t
+    State { enabled, ..s }
 }
 
 // The state after a 99h.
+#[tactic(auto, unfolding(words::specs::Choice::pick))]
 fn after_reset(s: State) -> State
     ensures { result ≡ state_after Class.Reset [] s [] }
 {
@@ -46,11 +47,11 @@ fn after_reset(s: State) -> State
 }
 
 // The state after a command frame: ignored while busy, else taken.
+#[tactic(auto, unfolding(words::specs::Choice::pick))]
 fn after_command(image: &[u8], s: State, frame: &[u8]) -> State
     ensures { result ≡ state_after Class.CommandFrame image.now s frame.now }
 {
-    let job = s.job;
-    if job.there {
+    if s.job.there {
         return with_enabled(s, false);
     }
     arrival::arrived(image, s, frame)
@@ -74,92 +75,82 @@ fn state_after(class: Class, image: &[u8], s: State, frame: &[u8]) -> State
 fn put_output(class: Class, s: State, output: &mut [u8])
     ensures { output.new ≡ output_after class s output.old }
 {
-    match class {
-        Class::Empty => {}
-        Class::EnableReset => {}
-        Class::Reset => {}
-        Class::Read => {
-            let job = s.job;
-            let reply = s.reply;
-            frames::fill_read(job.there, s.status, reply, output);
-        }
-        Class::CommandFrame => {}
-        Class::Unnamed => {}
+    if let Class::Read = class {
+        frames::fill_read(s.job.there, s.status, s.reply, output);
     }
 }
 
 // The answer of a call that did no step.
-fn no_step(number: u32, s: State) -> Answer
-    ensures { result ≡ answer number 0 s }
+fn no_step(outcome: Result<(), Refusal>, state: State) -> Answer
+    ensures { answer_of result ≡ answer (number_of outcome) 0 state }
 {
     Answer {
-        number,
+        outcome,
         steps: 0,
-        state: s,
+        state,
     }
 }
 
 // Power-up: the power-on state. Refusals 1 to 3.
+#[tactic(auto, unfolding(crate::specs::Calls::powered_up))]
 pub fn power_up(image: &[u8]) -> Answer
-    ensures { result ≡ powered_up image.now }
+    ensures { answer_of result ≡ powered_up image.now }
 {
-    let number = image::refusal(image);
-    no_step(number, state::power_on())
+    no_step(image::accepted(image), state::power_on())
 }
 
 // One frame, with the buffer that a read fills. Refusals 1 to 4.
-#[tactic(auto, unfolding(crate::specs::Calls::after_frame, crate::specs::Calls::output_after_frame, words::specs::Choice::pick))]
+#[tactic(auto, unfolding(crate::specs::Calls::after_frame, crate::specs::Calls::output_after_frame, words::specs::Choice::pick), using(refusals::proofs::Numbers::numbered))]
 pub fn frame(image: &[u8], s: State, frame: &[u8], output: &mut [u8]) -> Answer
-    ensures value { result ≡ after_frame image.now s frame.now }
+    ensures value { answer_of result ≡ after_frame image.now s frame.now }
     ensures output_after { output.new ≡ output_after_frame image.now s frame.now output.old }
 {
-    let number = state::refusal(image, s);
-    if number != 0 {
-        return no_step(number, s);
+    match state::accepted(image, s) {
+        Ok(()) => {
+            let class = frames::class_of(frame);
+            put_output(class, s, output);
+            no_step(DONE, state_after(class, image, s, frame))
+        }
+        refused => no_step(refused, s),
     }
-    let class = frames::class_of(frame);
-    put_output(class, s, output);
-    no_step(DONE, state_after(class, image, s, frame))
 }
 
-// Whether the work goes on: a step of the quota is left, and a job runs.
-fn goes_on(steps: u32, quota: u32, s: State) -> bool
-    ensures { result ≡ pick (ltb steps quota) (is_running s) false }
+// The answer of a work call that did its steps.
+#[tactic(auto, unfolding(crate::specs::Calls::after_steps))]
+fn worked(steps: u32, state: State) -> Answer
+    ensures { answer_of result ≡ answer 0 steps state }
 {
-    if steps < quota {
-        return state::is_running(s);
+    Answer {
+        outcome: DONE,
+        steps,
+        state,
     }
-    false
 }
 
-// The steps of an accepted work call.
+// The steps of an accepted work call: as many as the quota, or until no job runs.
 fn work_steps(image: &mut [u8], s: State, quota: u32) -> Answer
-    ensures value { result ≡ after_steps (device image.old s) (steps_done quota (device image.old s)) }
+    ensures value { answer_of result ≡ after_steps (device image.old s) (steps_done quota (device image.old s)) }
     ensures image_after { image.new ≡ (run (steps_done quota (device image.old s)) (device image.old s)).image }
 {
     let mut t = s;
-    let mut steps = 0;
-    while goes_on(steps, quota, t) {
-        let next = steps::step(image, t);
-        t = next;
-        steps += 1;
+    for done in 0..quota {
+        if !state::is_running(t) {
+            return worked(done, t);
+        }
+        t = steps::step(image, t);
     }
-    Answer {
-        number: DONE,
-        steps,
-        state: t,
-    }
+    worked(quota, t)
 }
 
 // Work: at most the quota's steps of the job, and how many were done. Refusals 1 to 4.
-#[tactic(auto, unfolding(crate::specs::Calls::after_work, crate::specs::Calls::image_after_work, words::specs::Choice::pick))]
+#[tactic(auto, unfolding(crate::specs::Calls::after_work, crate::specs::Calls::image_after_work, words::specs::Choice::pick), using(refusals::proofs::Numbers::numbered))]
 pub fn work(image: &mut [u8], s: State, quota: u32) -> Answer
-    ensures value { result ≡ after_work (device image.old s) quota }
+    ensures value { answer_of result ≡ after_work (device image.old s) quota }
     ensures image_after { image.new ≡ image_after_work (device image.old s) quota }
 {
-    let refused = state::refusal(image, s);
-    if refused != 0 {
-        return no_step(refused, s);
+    let outcome = state::accepted(image, s);
+    if outcome.is_err() {
+        return no_step(outcome, s);
     }
     work_steps(image, s, quota)
 }
