@@ -9,6 +9,11 @@ use Rattle.words.proofs.Runs.{place-append, place-front, take-front}
 use Rattle.hmac.specs.Hmac.{HMAC}
 use Rattle.host.specs.Frames.{signed_by}
 
+-- one run at the front
+pub one_run : (out a : List ℕ) → length a ≤ length out → with_bytes out 0 a ≡ with_front a out
+unfolding with_front
+one_run out a fits = place-front out a fits
+
 -- two runs at the front
 two_runs :
     (out a b o₁ o₂ : List ℕ) (n : ℕ) → length a ≡ n → n + length b ≤ length out → o₁ ≡ with_bytes out 0 a → o₂ ≡ with_bytes o₁ n b →

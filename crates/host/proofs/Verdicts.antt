@@ -57,7 +57,7 @@ pub good_number :
 good_number key tag reply = (zero_only key tag reply, λ g. ap number_of (good_read key tag reply g))
 
 empty_unless : (v : Verdict) (reply : List ℕ) → (v ≡ Good → ⊥) → part_of v reply ≡ []
-empty_unless (Refused number) reply other = refl
+empty_unless (Refused refusal) reply other = refl
 empty_unless Busy reply other = refl
 empty_unless (Failed status) reply other = refl
 empty_unless WrongTag reply other = refl
@@ -77,7 +77,7 @@ no_part key tag reply other = empty_unless (read_reply key tag reply) reply (λ 
 
 -- the status that a verdict carries, if it carries one
 abbrev carried : ℕ → Verdict → ℕ
-carried none (Refused number) = none
+carried none (Refused refusal) = none
 carried none Busy = none
 carried none (Failed status) = status
 carried none WrongTag = none

@@ -4,6 +4,8 @@ use Rattle.words.specs.Rows.{Row, ◌gives◌, first_of, any_of}
 use Rattle.words.specs.Table.{field}
 use Rattle.compare.specs.Compare.{same_bytes}
 use Rattle.hmac.specs.Hmac.{HMAC}
+use Rattle.refusals.specs.declared.Refusal.TheVariants.{InputLength, ReplyLength}
+use Rattle.refusals.specs.Numbers.{number}
 use Rattle.host.specs.declared.Verdict.{Verdict}
 use Rattle.host.specs.declared.Verdict.TheVariants.{Refused, Busy, Failed, WrongTag, WrongSignature, Good}
 
@@ -23,8 +25,8 @@ reply_signed key reply = same_bytes (field 17 32 reply) (HMAC key (field 1 16 re
 -- tag other than sent; signature wrong
 abbrev pub readings : List ℕ → List ℕ → List ℕ → List (Row Verdict)
 readings key tag reply =
-    (any_of (not (eqb (length key) 32) ∷ not (eqb (length tag) 12) ∷ []) gives Refused 6)
-    ∷ (not (eqb (length reply) 49) gives Refused 8)
+    (any_of (not (eqb (length key) 32) ∷ not (eqb (length tag) 12) ∷ []) gives Refused InputLength)
+    ∷ (not (eqb (length reply) 49) gives Refused ReplyLength)
     ∷ (eqb (status_in reply % 2) 1 gives Busy)
     ∷ (not (eqb (status_in reply) 0x80) gives Failed (status_in reply))
     ∷ (not (same_tag tag reply) gives WrongTag)
@@ -50,7 +52,7 @@ pub record GoodReply (key tag reply : List ℕ) : Type 0 where
 
 -- the number of a verdict: document 01's for a refusal, 0 for good, and what a C program is told for the others
 abbrev pub number_of : Verdict → ℕ
-number_of (Refused number) = number
+number_of (Refused refusal) = number refusal
 number_of Busy = 16
 number_of (Failed status) = 17
 number_of WrongTag = 18
@@ -59,7 +61,7 @@ number_of Good = 0
 
 -- the status that a verdict stands for; unless busy, the first byte of the reply (`status_judged` in proofs/Verdicts.antt)
 abbrev pub status_of : Verdict → ℕ
-status_of (Refused number) = 0
+status_of (Refused refusal) = 0
 status_of Busy = 0x01
 status_of (Failed status) = status
 status_of WrongTag = 0x80
@@ -68,7 +70,7 @@ status_of Good = 0x80
 
 -- the reader hands back the four counter bytes as the part of the reply where they stand; empty unless good
 abbrev pub part_of : Verdict → List ℕ → List ℕ
-part_of (Refused number) reply = []
+part_of (Refused refusal) reply = []
 part_of Busy reply = []
 part_of (Failed status) reply = []
 part_of WrongTag reply = []
@@ -77,7 +79,7 @@ part_of Good reply = take 4 (drop 13 reply)
 
 -- which byte of the reply the part starts at; an empty one is at the front
 abbrev pub part_start : Verdict → ℕ
-part_start (Refused number) = 0
+part_start (Refused refusal) = 0
 part_start Busy = 0
 part_start (Failed status) = 0
 part_start WrongTag = 0

@@ -1,6 +1,8 @@
 // The C entries of the host end, as the static library exports them: include/rpmc_host.h says them to C programmers.
 //
 // Each is one call of crates/rpmc_host, with its clauses: a crate is a library or a static library, and that one is a library.
+//
+// kept: numbers in the place of a Result, and each entry beside its like in crates/rpmc_host, as C has them.
 
 #![tactic(auto)]
 

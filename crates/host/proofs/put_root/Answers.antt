@@ -24,4 +24,4 @@ returns c =
     )
     (front_three a.out.now (head 0 a.counter) a.key.now tail
     first.new.out second.new.out third.new.out 4 36 refl
-    (omega (arith, c.requires.0)) (omega (arith, c.requires.1, sent)) first.ensures second.ensures third.ensures)
+    (omega (arith, c.told-key)) (omega (arith, c.requires, sent)) first.ensures second.ensures third.ensures)

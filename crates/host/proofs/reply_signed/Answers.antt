@@ -9,7 +9,7 @@ unfolding reply_signed
 returns c =
     let signature = c.signature-signed in
     let reply = c.args.reply.now in
-    let size = c.requires.1 in
+    let size = c.told-reply in
     rw (
       ← field_part 17 32 reply (omega (arith, size)),
       ← field_part 1 16 reply (omega (arith, size)),

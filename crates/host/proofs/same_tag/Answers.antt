@@ -7,4 +7,4 @@ use Rattle.host.proofs.same_tag.Goals as goal
 pub returns : goal.returns
 unfolding same_tag
 returns c =
-    rw (← field_part 1 12 c.args.reply.now (omega (arith, c.requires))) c.same.ensures
+    rw (← field_part 1 12 c.args.reply.now (omega (arith, c.told-reply))) c.same.ensures

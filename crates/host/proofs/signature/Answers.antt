@@ -1,10 +1,16 @@
 -- `signature` meets its contract: with these lengths, the HMAC is not refused. Assumes nothing.
-use mathlib.Core.Path.{ap, ◌∙◌}
-use Rattle.hash.specs.declared.Answer.{Answer}
-use Rattle.hmac.proofs.Answered.{hmac_done}
+use Rattle.std.proofs.Common.{rules}
+use Rattle.host.proofs.Signed.{signed}
 use Rattle.host.proofs.signature.Goals as goal
+
+pub unwrap-requires : goal.unwrap-requires
+unwrap-requires c =
+    let a = c.args in
+    rw (signed c.hmac.result a.key.now a.message.now c.told-key c.requires c.hmac.ensures) (search rules)
 
 pub returns : goal.returns
 returns c =
-    ap (λ (a : Answer). a.digest)
-    (c.hmac-signed.ensures ∙ hmac_done c.args.key.now c.args.message.now c.requires.0 c.requires.1)
+    let a = c.args in
+    let done = signed c.hmac.result a.key.now a.message.now c.told-key c.requires c.hmac.ensures in
+    let unwrapped = c.unwrap.ensures in
+    cc
