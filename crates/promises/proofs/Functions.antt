@@ -11,9 +11,8 @@ use Rattle.frames.specs.Classes.{class_of}
 use Rattle.frames.specs.Reading.{read_output}
 use Rattle.jobs.specs.Jobs.{longest}
 use Rattle.state.specs.Parts.{power_on}
-use Rattle.device.specs.declared.Answer.{Answer}
 use Rattle.device.specs.Work.{Device}
-use Rattle.device.specs.Calls.{device, powered_up, After, leaving, after, Call, PowerUp, Frame, Work, outcome, is_busy}
+use Rattle.device.specs.Calls.{Answer, device, powered_up, After, leaving, after, Call, PowerUp, Frame, Work, outcome, is_busy}
 use Rattle.counters.specs.Compared.{Alike}
 use Rattle.orders.specs.Orders.{all_called, all_left, last_left}
 use Rattle.orders.specs.Ledger.{Ledger, ledger, opened, is_doing}

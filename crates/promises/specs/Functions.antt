@@ -2,7 +2,7 @@
 -- before it left. Of a function only its contract is used, as the prover reads it from the source. Assumes nothing.
 use Rattle.std.specs.Prelude.{ℕ, ◌≡◌, List, [], ◌∷◌}
 use Rattle.device.specs.Work.{Device}
-use Rattle.device.specs.Calls.{device, After, leaving, Call, PowerUp, Frame, Work}
+use Rattle.device.specs.Calls.{device, answer_of, After, leaving, Call, PowerUp, Frame, Work}
 use Rattle.device.proofs.power_up.Reads as power-up-reads
 use Rattle.device.proofs.frame.Reads as frame-reads
 use Rattle.device.proofs.work.Reads as work-reads
@@ -23,14 +23,14 @@ module _
 
 -- a function was called: what it was handed, and what it left
 abbrev pub Did : Call → Device → After → Type 0
-Did PowerUp d r = Called power-up-reads.Post (λ κs a. a.0.now ≡ d.image) (λ κs a x s. leaving x [] a.0.now ≡ r)
+Did PowerUp d r = Called power-up-reads.Post (λ κs a. a.0.now ≡ d.image) (λ κs a x s. leaving (answer_of x) [] a.0.now ≡ r)
 Did (Frame bytes output) d r =
     Called frame-reads.Post
     (λ κs a. (device a.0.now a.1.0 ≡ d) × (a.1.1.0.now ≡ bytes) × (a.1.1.1.0.now ≡ output))
-    (λ κs a x s. leaving x s.1.1.1.0.now a.0.now ≡ r)
+    (λ κs a x s. leaving (answer_of x) s.1.1.1.0.now a.0.now ≡ r)
 Did (Work quota) d r =
     Called work-reads.Post (λ κs a. (device a.0.now a.1.0 ≡ d) × (a.1.1.0 ≡ quota))
-    (λ κs a x s. leaving x [] s.0.now ≡ r)
+    (λ κs a x s. leaving (answer_of x) [] s.0.now ≡ r)
 
 -- a run made of calls, and what each of them left, in order
 unfoldable pub Ran : List Call → Device → List After → Type 0
