@@ -1,5 +1,4 @@
--- The laws of a buffer filled with digits, of a text of digits, and of what can be read in a text.
-pub mod Filled
-pub mod AllDigits
+-- The byte of a pair of characters, what is not readable, and that each public function has one answer only.
+pub mod Pairs
 pub mod Readable
 pub mod OneAnswer

@@ -1,5 +1,6 @@
 -- Bytes as hexadecimal digits, upper case, the high digit first, and back. Assumes nothing.
-use Rattle.std.specs.Prelude.{ℕ, ◌+◌, ◌-◌, ◌*◌, ◌/◌, ◌%◌, Bool, true, false, List, [], ◌∷◌, ◌++◌, ltb, leb, eqb, length, get_or, drop}
+use Rattle.std.specs.Prelude.{ℕ, ◌+◌, ◌-◌, ◌*◌, ◌/◌, ◌%◌, Bool, Option, Some, None, List, [], ◌∷◌, ◌++◌, ltb, leb, eqb, length, get_or, drop, is_some, unwrap_or}
+use Rattle.std.specs.List.{list_all}
 use Rattle.words.specs.Choice.{pick}
 use Rattle.words.specs.Table.{table, spread}
 
@@ -19,23 +20,26 @@ digits_of_all bytes = spread digits_of bytes
 unfoldable pub with_digits : List ℕ → List ℕ → List ℕ
 with_digits bytes out = pick (leb (2 * length bytes) (length out)) (digits_of_all bytes ++ drop (2 * length bytes) out) out
 
--- the value of a digit's character; 16 for any other character
-unfoldable pub value_of : ℕ → ℕ
+-- the value of a digit's character; none of any other character
+unfoldable pub value_of : ℕ → Option ℕ
 value_of character =
-    pick (ltb character 48) 16
-    (pick (ltb character 58) (character - 48)
-    (pick (ltb character 65) 16
-    (pick (ltb character 71) (character - 55)
-    16)))
+    pick (ltb character 48) None
+    (pick (ltb character 58) (Some (character - 48))
+    (pick (ltb character 65) None
+    (pick (ltb character 71) (Some (character - 55))
+    None)))
 
 -- every character is a digit's
 unfoldable pub all_digits : List ℕ → Bool
-all_digits [] = true
-all_digits (character ∷ text) = pick (ltb (value_of character) 16) (all_digits text) false
+all_digits text = list_all (λ character. is_some (value_of character)) text
+
+-- the byte of two digits' characters; any other character counts as 0
+abbrev pub byte_of : ℕ → ℕ → ℕ
+byte_of high low = 16 * unwrap_or (value_of high) 0 + unwrap_or (value_of low) 0
 
 -- the byte of the two digits at a place
 abbrev pub byte_at : List ℕ → ℕ → ℕ
-byte_at text i = 16 * value_of (get_or text (2 * i) 0) + value_of (get_or text (2 * i + 1) 0)
+byte_at text i = byte_of (get_or text (2 * i) 0) (get_or text (2 * i + 1) 0)
 
 -- the bytes that a text of digits stands for; none for any other text
 unfoldable pub bytes_in : List ℕ → List ℕ

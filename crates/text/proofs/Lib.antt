@@ -1,4 +1,3 @@
--- The laws of what is printed, that four digits are no number, and that each public function has one answer only.
-pub mod Front
+-- That four digits are no number, and that each public function has one answer only.
 pub mod FourDigits
 pub mod OneAnswer

@@ -1,6 +1,6 @@
 -- Document 01, the program `rpmcrun`: each output line repeats the letter, then the answer number, then for `R` the bytes, for `S`
 -- the steps done; the first line is the count. Assumes nothing.
-use Rattle.std.specs.Prelude.{ℕ, ◌+◌, ◌/◌, ◌%◌, ◌≡◌, List, [], ◌∷◌, ◌++◌, ltb, length, drop}
+use Rattle.std.specs.Prelude.{ℕ, ◌+◌, ◌/◌, ◌%◌, List, [], ◌∷◌, ◌++◌, ltb, length}
 use Rattle.words.specs.Choice.{pick}
 use Rattle.hexadecimal.specs.Hex.{digits_of_all}
 
@@ -38,15 +38,6 @@ unknown_line = 63 ∷ newline ∷ []
 unfoldable pub count_line : ℕ → List ℕ
 count_line count = (99 ∷ 111 ∷ 117 ∷ 110 ∷ 116 ∷ 101 ∷ 114 ∷ 115 ∷ 32 ∷ []) ++ decimal count ++ (newline ∷ [])
 
--- the line of a read, or `?` where it would be longer than the output: no line asks for more than 256 bytes
+-- the line of a read, or `?` where it would be longer than a line is: no line asks for more than 256 bytes
 unfoldable pub fitting_read_line : ℕ → List ℕ → List ℕ
 fitting_read_line number bytes = pick (ltb 256 (length bytes)) unknown_line (read_line number bytes)
-
--- the output with a text at its front
-abbrev pub printed : List ℕ → List ℕ → List ℕ
-printed text output = text ++ drop (length text) output
-
--- a call prints a text: it returns the text's length, and the output has the text at its front afterwards
-pub record Prints (text : List ℕ) (r : ℕ) (before after : List ℕ) : Type 0 where
-  pub size : r ≡ length text
-  pub output : after ≡ printed text before

@@ -1,163 +1,155 @@
-// The texts of rpmcrun's lines: the number that a line gives, and each line that is printed, at the front of the output.
+// The texts of rpmcrun's lines: the number that a line gives, and each line that is printed.
 //
-// Contracts cite specs/. Each function takes any input: its output has room for the longest line, 517 characters.
+// Contracts cite specs/. Each function takes any input.
 
 #![tactic(auto)]
 
-ghost use Rattle.std.specs.Prelude.{◌≡◌, ◌+◌, ◌*◌, ◌%◌, ◌≤◌, [], ◌∷◌, ◌++◌, length};
+ghost use Rattle.std.specs.Prelude.{◌≡◌, ◌+◌, ◌*◌, ◌%◌, ◌<◌, ◌≤◌, [], ◌∷◌, ◌++◌, IfSome, length};
+ghost use Rattle.arrayvec.specs.ArrayVec.{array_vec_len};
 ghost use Rattle.hexadecimal.specs.Hex.{digits_of_all};
-ghost use Rattle.text.specs.Numbers.{value_of, with_digit, number_in};
-ghost use Rattle.text.specs.Printing.{newline, decimal, count_line, number_line, work_line, read_line, fitting_read_line, unknown_line, printed, Prints};
+ghost use Rattle.text.specs.Numbers.{value_of, with_digit, number_with, number_in};
+ghost use Rattle.text.specs.Printing.{newline, decimal, count_line, number_line, work_line, fitting_read_line, unknown_line};
 
-// What stands for no number, above every number that a line may give.
-const NONE: u32 = 1000;
+use arrayvec::ArrayVec;
+
+// A line that is printed, with its newline: at most 517 characters.
+pub type Line = ArrayVec<u8, 517>;
 
 // The value of a digit's character.
 #[tactic(auto, unfolding(crate::specs::Numbers::value_of, words::specs::Choice::pick))]
-fn value_of(character: u8) -> u32
-    ensures { result ≡ value_of character }
+fn value_of(character: u8) -> Option<u32>
+    ensures value { result ≡ value_of character }
+    ensures bound { IfSome result (λ digit. digit < 10) }
 {
-    if character < 48 {
-        return NONE;
-    }
-    if 57 < character {
-        return NONE;
-    }
-    (character - 48) as u32
+    char::from(character).to_digit(10)
 }
 
 // A number with one more digit behind it.
 #[tactic(auto, unfolding(crate::specs::Numbers::with_digit, words::specs::Choice::pick))]
-fn with_digit(number: u32, digit: u32) -> u32
+fn with_digit(number: u32, digit: u32) -> Option<u32>
+    requires { digit < 10 }
     ensures { result ≡ with_digit number digit }
 {
-    if number == 0 {
-        return NONE;
+    match number {
+        1..=99 => Some(10 * number + digit),
+        _ => None,
     }
-    if number < 100 {
-        if digit < 10 {
-            return 10 * number + digit;
-        }
-        return NONE;
+}
+
+// A number with the digits of a text behind it, or none.
+#[tactic(auto, unfolding(crate::specs::Numbers::number_with))]
+fn number_with(mut number: u32, text: &[u8]) -> Option<u32>
+    ensures { result ≡ number_with number text.now }
+{
+    for character in text {
+        number = with_digit(number, value_of(*character)?)?;
     }
-    NONE
+    Some(number)
 }
 
 // The number that a text is, or none.
-pub fn number_in(text: &[u8]) -> u32
+#[tactic(auto, unfolding(crate::specs::Numbers::number_in))]
+pub fn number_in(text: &[u8]) -> Option<u32>
     ensures { result ≡ number_in text.now }
 {
-    let mut number = value_of(words::byte(text, 0));
-    let mut i = 0;
-    while i + 1 < text.len() {
-        i += 1;
-        number = with_digit(number, value_of(text[i]));
-    }
-    number
+    let (first, more) = text.split_first()?;
+    number_with(value_of(*first)?, more)
 }
 
 // The character of a number's last decimal digit.
 fn last_digit(n: u32) -> u8
     ensures { result ≡ 48 + n % 10 }
 {
-    48 + (n % 10) as u8
+    b'0' + (n % 10) as u8
 }
 
-// Fills the front of an output that has room with a text.
-fn put_front(text: &[u8], out: &mut [u8])
-    requires { length text.now ≤ length out.old }
-    ensures { out.new ≡ printed text.now out.old }
+// Appends a text that there is room for.
+fn append(text: &[u8], line: &mut Line)
+    requires { array_vec_len line.old + length text.now ≤ 517 }
+    ensures { line.new.items ≡ line.old.items ++ text.now }
 {
-    words::place(text, 0, out);
+    line.try_extend_from_slice(text).unwrap();
 }
 
-// Prints a number in decimal digits, and a newline. Returns the length, at most 3.
-fn put_decimal(n: u32, out: &mut [u8]) -> usize
-    requires { 3 ≤ length out.old }
-    ensures upper_bound { result ≤ 3 }
-    ensures prints { Prints (decimal n ++ (newline ∷ [])) result out.old out.new }
+// The line of a text that there is room for.
+fn line_of(text: &[u8]) -> Line
+    requires { length text.now ≤ 517 }
+    ensures { result.items ≡ text.now }
 {
-    if n < 10 {
-        let one = [last_digit(n), b'\n'];
-        put_front(&one, out);
-        return 2;
+    let mut line = Line::new();
+    append(text, &mut line);
+    line
+}
+
+// The line of a text with a number in decimal digits behind it.
+// kept: the digits are made here. `decimal` has the last two digits of a number above 99 too, where `itoa` prints all of them.
+#[tactic(auto, unfolding(crate::specs::Printing::decimal, words::specs::Choice::pick))]
+fn decimal_line(front: &[u8], n: u32) -> Line
+    requires { length front.now + 3 ≤ 517 }
+    ensures { result.items ≡ front.now ++ decimal n ++ newline ∷ [] }
+{
+    let mut line = line_of(front);
+    if 10 <= n {
+        line.push(last_digit(n / 10));
     }
-    let two = [last_digit(n / 10), last_digit(n), b'\n'];
-    put_front(&two, out);
-    3
+    append(&[last_digit(n), b'\n'], &mut line);
+    line
 }
 
-// Prints a text, then a number in decimal digits, and a newline. Returns the length.
-fn decimal_line(front: &[u8], n: u32, out: &mut [u8]) -> usize
-    requires { length front.now + 3 ≤ length out.old }
-    ensures { Prints (front.now ++ decimal n ++ (newline ∷ [])) result out.old out.new }
+// The first line, the count.
+#[tactic(auto, unfolding(crate::specs::Printing::count_line))]
+pub fn count_line(count: u32) -> Line
+    ensures { result.items ≡ count_line count }
 {
-    put_front(front, out);
-    let at = front.len();
-    at + put_decimal(n, &mut out[at..])
+    decimal_line(b"counters ", count)
 }
 
-// Prints the first line, the count. Returns the length.
-pub fn count_line(count: u32, out: &mut [u8; 517]) -> usize
-    ensures { Prints (count_line count) result out.old out.new }
+// `?`.
+pub fn unknown_line() -> Line
+    ensures { result.items ≡ unknown_line }
 {
-    decimal_line(b"counters ", count, out)
+    line_of(b"?\n")
 }
 
-// Prints `?`. Returns the length.
-pub fn unknown_line(out: &mut [u8; 517]) -> usize
-    ensures { Prints unknown_line result out.old out.new }
+// A letter and the answer number.
+#[tactic(auto, unfolding(crate::specs::Printing::number_line))]
+pub fn number_line(letter: u8, number: u32) -> Line
+    ensures { result.items ≡ number_line letter number }
 {
-    put_front(b"?\n", out);
-    2
+    line_of(&[letter, b' ', last_digit(number), b'\n'])
 }
 
-// Prints a letter and the answer number. Returns the length.
-pub fn number_line(letter: u8, number: u32, out: &mut [u8; 517]) -> usize
-    ensures { Prints (number_line letter number) result out.old out.new }
-{
-    let line = [letter, b' ', last_digit(number), b'\n'];
-    put_front(&line, out);
-    4
-}
-
-// Prints the answer number and the steps of a work call. Returns the length.
-pub fn work_line(number: u32, steps: u32, out: &mut [u8; 517]) -> usize
-    ensures { Prints (work_line number steps) result out.old out.new }
+// The answer number and the steps of a work call.
+#[tactic(auto, unfolding(crate::specs::Printing::work_line))]
+pub fn work_line(number: u32, steps: u32) -> Line
+    ensures { result.items ≡ work_line number steps }
 {
     let front = [b'S', b' ', last_digit(number), b' '];
-    decimal_line(&front, steps, out)
+    decimal_line(&front, steps)
 }
 
-// Prints bytes in hexadecimal digits, and a newline. Returns the length.
-fn put_digits(bytes: &[u8], out: &mut [u8]) -> usize
-    requires { 2 * length bytes.now + 1 ≤ length out.old }
-    ensures value { result ≡ 2 * length bytes.now + 1 }
-    ensures out_after { out.new ≡ printed (digits_of_all bytes.now ++ (newline ∷ [])) out.old }
+// Appends bytes in hexadecimal digits.
+#[tactic(auto, unfolding(words::specs::Table::spread))]
+fn append_digits(bytes: &[u8], line: &mut Line)
+    requires { array_vec_len line.old + 2 * length bytes.now ≤ 517 }
+    ensures items { line.new.items ≡ line.old.items ++ digits_of_all bytes.now }
+    ensures len { array_vec_len line.new ≡ array_vec_len line.old + 2 * length bytes.now }
 {
-    hexadecimal::write(bytes, out);
-    let end = 2 * bytes.len();
-    out[end] = b'\n';
-    end + 1
+    for byte in bytes {
+        append(&hexadecimal::digits(*byte), line);
+    }
 }
 
-// Prints the answer number and the bytes of a read that has room for them. Returns the length.
-fn put_read(number: u32, bytes: &[u8], out: &mut [u8]) -> usize
-    requires { 2 * length bytes.now + 5 ≤ length out.old }
-    ensures { Prints (read_line number bytes.now) result out.old out.new }
-{
-    let front = [b'R', b' ', last_digit(number), b' '];
-    put_front(&front, out);
-    4 + put_digits(bytes, &mut out[4..])
-}
-
-// Prints the answer number and the bytes of a read, or `?` where they are more than 256. Returns the length.
-#[tactic(auto, unfolding(crate::specs::Printing::fitting_read_line, words::specs::Choice::pick))]
-pub fn read_line(number: u32, bytes: &[u8], out: &mut [u8; 517]) -> usize
-    ensures { Prints (fitting_read_line number bytes.now) result out.old out.new }
+// The answer number and the bytes of a read, or `?` where they are more than 256.
+#[tactic(auto, unfolding(crate::specs::Printing::fitting_read_line, crate::specs::Printing::read_line, words::specs::Choice::pick))]
+pub fn read_line(number: u32, bytes: &[u8]) -> Line
+    ensures { result.items ≡ fitting_read_line number bytes.now }
 {
     if 256 < bytes.len() {
-        return unknown_line(out);
+        return unknown_line();
     }
-    put_read(number, bytes, out)
+    let mut line = line_of(&[b'R', b' ', last_digit(number), b' ']);
+    append_digits(bytes, &mut line);
+    line.push(b'\n');
+    line
 }

@@ -1,28 +1,32 @@
--- `fill` meets its contract: the loop fills the buffer from the front. Assumes nothing.
+-- `fill` meets its contract: the loop stores the next byte's digits behind the others. Assumes nothing.
+use Prim.Native.Nat.{◌+◌, ◌-◌, ◌*◌}
 use native.Mathlib.Omega.{arith}
-use mathlib.Core.Path.{◌≡◌, refl, ◌∙◌}
-use lib.ListN.{length, length-set}
-use lib.Seq.{take-length}
-use Rattle.words.specs.Table.{spread}
-use Rattle.hexadecimal.proofs.Filled.{digits_more}
+use mathlib.Core.Path.{◌≡◌, refl}
+use mathlib.Core.List.{append_assoc}
+use lib.ListN.{take, drop}
+use lib.Seq.{take_at, drop_at, drop-drop}
+use Rattle.words.proofs.Spread.{spread_more, length_spread_take}
+use Rattle.hexadecimal.specs.Hex.{digits_of, digits_of_all}
 use Rattle.hexadecimal.proofs.fill.Goals as goal
-
-pub loop-i-init : goal.loop-i-init
-unfolding spread
-loop-i-init c = (omega arith, refl, refl)
-
-pub digit-requires : goal.digit-requires
-digit-requires c = omega (arith, c.shared_slice_known-in-loop-i-1.given c.loop-i.i)
-
-pub bounds-out-i-in-loop-i : goal.bounds-out-i-in-loop-i
-bounds-out-i-in-loop-i c = simp length-set (omega arith)
 
 pub loop-i-preserved : goal.loop-i-preserved
 loop-i-preserved c =
-    (omega arith, simp length-set (omega arith), rw (c.digit-in-loop-i.ensures, c.digit.ensures, c.loop-i.invariant.2) (digits_more c.args.bytes.now c.args.out.now c.loop-i.i (omega arith) (omega arith)))
-
-pub returns : goal.returns
-returns c =
     let bytes = c.args.bytes.now in
-    let e : c.loop-i.i ≡ length bytes = omega arith in
-    rw e at c.loop-i.invariant.2 ∙ rw (take-length bytes)
+    let out = c.args.out.now in
+    let i = c.loop-i.i in
+    let before = digits_of_all (take i bytes) in
+    let size = length_spread_take digits_of 2 (λ b. refl) bytes i (omega arith) in
+    let two : 2 * i + 2 - 2 * i ≡ 2 = omega arith in
+    let behind : 2 * i + 2 ≡ 2 * (i + 1) = omega arith in
+    rw (
+      c.copy_from_slice.ensures.after,
+      c.digits.ensures,
+      c.loop-i.invariant,
+      take_at before (drop (2 * i) out) (2 * i) size,
+      drop_at before (drop (2 * i) out) (2 * i) size,
+      spread_more digits_of bytes i (omega arith),
+      two,
+      drop-drop 2 (2 * i) out,
+      behind,
+    )
+    (simp append_assoc)
