@@ -87,15 +87,6 @@ unfolding after_all
 after_last [] line d = refl
 after_last (first ∷ lines) line d = after_last lines line (turn d first).after
 
--- the end of the input, where no byte of a line is kept, and where one is
-pub ended-none : (d : Device) → ended (conversation d []) ≡ fed_to [] (conversation d [])
-unfolding ended pick
-ended-none d = refl
-
-pub ended_some : (c : Conversation) → (length c.kept ≡ 0 → ⊥) → ended c ≡ answered c
-unfolding ended pick
-ended_some c some = rw (ne_eqb (length c.kept) 0 some)
-
 -- an input that has ended: a last line without newline is answered too
 told-ended :
     (d : Device) (whole : List (List ℕ)) (last : List ℕ) → let lines = lines_as whole last in

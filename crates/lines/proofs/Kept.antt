@@ -1,115 +1,95 @@
--- A line gathered at the front of its room, a byte at a time: what is kept of it stands there, and the rest of the room is as it was.
--- Assumes nothing.
+-- What is kept of a line, all bytes at once: the front of the bytes that there is room for. And where its newline is. Assumes nothing.
 use Prim.Native.Nat.{ℕ, suc, ◌+◌, ◌-◌, ◌≤◌, ◌<◌, min}
-use mathlib.Core.Path.{◌≡◌, refl, sym, ap, ◌∙◌}
-use mathlib.Core.Bool.{Bool, true, false}
-use mathlib.Core.List.{List, [], ◌∷◌, ◌++◌}
-use native.Mathlib.Numerals.{add-one}
+use mathlib.Core.Path.{◌≡◌, refl, sym}
+use mathlib.Core.Bool.{Bool, true, false, cond}
+use mathlib.Core.List.{List, [], ◌∷◌, ◌++◌, append-nil, append_assoc}
 use native.Mathlib.Omega.{arith}
-use borrow.Author.Tests.{eq-eqb, ne_eqb, le-ltb, ltb-true, ltb-false}
-use lib.Dec.{ltb}
-use lib.ListN.{length, get_or, take, drop, set, length-set, take-append-drop, drop_of_length-le}
-use lib.Seq.{take_all, length-take-le, take-suc-set, drop-set-lt, drop-drop, drop-cons}
+use borrow.Author.Tests.{ltb-true, ltb-false}
+use lib.Dec.{ltb, eqb}
+use borrow.Rule.Slice.PartMut.{post_of, Post-is}
+use lib.ListN.{length, take, drop, length-append}
+use Rattle.std.proofs.lemmas.List.{length-take-le, take_min}
+use Rattle.std.proofs.lemmas.List.Folds.{length-prefix_len}
+use lib.Seq.{take-length, take-nil}
+use Rattle.std.specs.List.{position_or_len}
+use Rattle.std.specs.Prelude.{Option, Some, None, position, MatchOption, unwrap_or}
 use Rattle.words.specs.Choice.{pick}
-use Rattle.text.specs.Printing.{newline, Prints}
+use Rattle.words.specs.Words.{with_front}
+use Rattle.text.specs.Printing.{newline}
 use Rattle.lines.specs.Feeding.{keeping, before_newline, keeping_all}
-use Rattle.lines.proofs.Newline.{before-newline, before_other}
+use Rattle.lines.proofs.Newline.{before-newline, before_other, before_most, no_newline}
 
--- all of a room, where more is said to be kept
-take_min : (n : ℕ) (room : List ℕ) → length room ≡ 515 → take (min n 515) room ≡ take n room
-take_min n room l = by_size (ltb n 515) refl
-  where
-    by_size : (t : Bool) → ltb n 515 ≡ t → take (min n 515) room ≡ take n room
-    by_size true e =
-        let same : min n 515 ≡ n = omega (arith, ltb-true n 515 e) in
-        rw same
-    by_size false e =
-        let all : min n 515 ≡ 515 = omega (arith, ltb-false n 515 e) in
-        rw (all, take_all 515 room (omega arith), take_all n room (omega (arith, ltb-false n 515 e)))
+keeping_step :
+    (byte : ℕ) (bytes kept : List ℕ) → ((k : List ℕ) → length k ≤ 515 → keeping_all k bytes ≡ k ++ take (515 - length k) bytes) →
+    length kept ≤ 515 → (t : Bool) → ltb (length kept) 515 ≡ t → keeping_all kept (byte ∷ bytes) ≡ kept ++ take (515 - length kept) (byte ∷ bytes)
+unfolding keeping_all keeping pick
+keeping_step byte bytes kept more h true e =
+    let few : length kept < 515 = ltb-true (length kept) 515 e in
+    let next : length (kept ++ (byte ∷ [])) ≡ suc (length kept) = rw (length-append kept (byte ∷ [])) (omega arith) in
+    let room : 515 - length kept ≡ suc (515 - suc (length kept)) = omega arith in
+    rw (e, room, more (kept ++ (byte ∷ [])) (omega arith), next) (append_assoc kept (byte ∷ []) _)
+keeping_step byte bytes kept more h false e =
+    let none : 515 - length kept ≡ 0 = omega (arith, ltb-false (length kept) 515 e) in
+    rw (e, more kept h, none)
 
--- what keeping a byte does: n bytes of a room are kept, m of it afterwards
-kept_by :
-    (line room : List ℕ) (n m byte : ℕ) → length line ≡ 515 → (t : Bool) → ltb n 515 ≡ t → m ≡ pick t (n + 1) n →
-    room ≡ pick t (set line n byte) line →
-    (take m room ≡ keeping (take n line) byte) × (drop (min m 515) room ≡ drop (min m 515) line) × (min n 515 ≤ min m 515) × (length room ≡ 515)
-unfolding keeping pick
-kept_by line room n m byte l true e p q =
-    let short : n < 515 = ltb-true n 515 e in
-    let size : length (take n line) ≡ n = length-take-le n line (omega arith) in
-    let next : m ≡ suc n = p ∙ add-one n in
-    let inside : min m 515 ≡ suc n = omega arith in (
-      rw (q, next, size, e) (take-suc-set line n byte (omega arith)),
-      rw (q, inside) (drop-set-lt (suc n) line n byte (omega arith)),
-      omega arith,
-      rw (q, length-set line n byte) l,
-    )
-kept_by line room n m byte l false e p q =
-    let full : take n line ≡ line = take_all n line (omega (arith, ltb-false n 515 e)) in
-    let size : ltb (length line) 515 ≡ false = le-ltb (length line) 515 (omega arith) in
-    (rw (q, p, full, size), rw q, omega arith, rw q l)
+-- what there is room for
+pub keeping_all_is : (bytes kept : List ℕ) → length kept ≤ 515 → keeping_all kept bytes ≡ kept ++ take (515 - length kept) bytes
+unfolding keeping_all
+keeping_all_is [] kept h = rw (take-nil (515 - length kept)) (sym (append-nil kept))
+keeping_all_is (byte ∷ bytes) kept h = keeping_step byte bytes kept (keeping_all_is bytes) h (ltb (length kept) 515) refl
 
--- what is the same from a place on, is the same further on
-drop-further : (x y : List ℕ) (n m : ℕ) → n ≤ m → drop n x ≡ drop n y → drop m x ≡ drop m y
-drop-further x y n m h e =
-    let on : m ≡ n + (m - n) = omega arith in
-    rw (on, sym (drop-drop (m - n) n x), sym (drop-drop (m - n) n y), e)
+front_step :
+    (byte : ℕ) (bytes : List ℕ) → before_newline bytes ≡ take (position_or_len (λ b. eqb b newline) bytes) bytes → (t : Bool) → eqb byte newline ≡ t →
+    before_newline (byte ∷ bytes) ≡ take (position_or_len (λ b. eqb b newline) (byte ∷ bytes)) (byte ∷ bytes)
+front_step byte bytes more true e = rw (before-newline byte bytes e, e)
+front_step byte bytes more false e =
+    let next : 1 + position_or_len (λ b. eqb b newline) bytes ≡ suc (position_or_len (λ b. eqb b newline) bytes) = omega arith in
+    rw (before_other byte bytes e, e, next, ← more)
 
--- how far gathering has come, in a room that was `before`: i bytes were read, and n are kept
-pub record Gathering (bytes kept before : List ℕ) (room : List ℕ) (n i : ℕ) : Type 0 where
-  pub read : i + length (before_newline (drop i bytes)) ≡ length (before_newline bytes)
-  pub line : keeping_all (take n room) (before_newline (drop i bytes)) ≡ keeping_all kept (before_newline bytes)
-  pub rest : drop (min n 515) room ≡ drop (min n 515) before
-  pub size : length room ≡ 515
+-- what stands before the first newline, or all where there is none
+pub before_newline_is : (bytes : List ℕ) → before_newline bytes ≡ take (position_or_len (λ b. eqb b newline) bytes) bytes
+unfolding before_newline
+before_newline_is [] = refl
+before_newline_is (byte ∷ bytes) = front_step byte bytes (before_newline_is bytes) (eqb byte newline) refl
 
-pub gathering_starts : (bytes room : List ℕ) (n : ℕ) → length room ≡ 515 → Gathering bytes (take (min n 515) room) room room n 0
-gathering_starts bytes room n l =
-    record {
-      read = omega arith;
-      line = ap (λ (kept : List ℕ). keeping_all kept (before_newline bytes)) (sym (take_min n room l));
-      rest = refl;
-      size = l;
-    }
+-- where it stands, and what stands before it
+module _ (bytes : List ℕ) where
+  abbrev at : ℕ
+  at = position_or_len (λ b. eqb b newline) bytes
 
-module _ {bytes kept before room : List ℕ} {n i : ℕ} (g : Gathering bytes kept before room n i) where
-  -- a byte that is no newline
-  pub gathering_on :
-      (room' : List ℕ) (m : ℕ) → i < length bytes → (get_or bytes i 0 ≡ newline → ⊥) → m ≡ pick (ltb n 515) (n + 1) n →
-      room' ≡ pick (ltb n 515) (set room n (get_or bytes i 0)) room → Gathering bytes kept before room' m (i + 1)
-  unfolding keeping_all
-  gathering_on room' m h other p q =
-      let byte = get_or bytes i 0 in
-      let k = kept_by room room' n m byte g.size (ltb n 515) refl p q in
-      let there : drop i bytes ≡ byte ∷ drop (suc i) bytes = drop-cons bytes i 0 h in
-      let more : before_newline (drop i bytes) ≡ byte ∷ before_newline (drop (suc i) bytes) =
-      rw there (before_other byte (drop (suc i) bytes) (ne_eqb byte newline other)) in
-      record {
-        read = rw (add-one i) (omega (arith, g.read, ap length more));
-        line = rw (add-one i, k.0) (ap (keeping_all (take n room)) (sym more) ∙ g.line);
-        rest = k.1 ∙ drop-further room before (min n 515) (min m 515) k.2 g.rest;
-        size = k.3;
-      }
+  size : length (before_newline bytes) ≡ at
+  size = rw (before_newline_is bytes) (length-prefix_len _ bytes)
 
-  -- at a newline, or where there is none: what is kept is the line
-  gathering_ends :
-      before_newline (drop i bytes) ≡ [] → (i ≡ length (before_newline bytes)) × Prints (keeping_all kept (before_newline bytes)) (min n 515) before room
-  unfolding keeping_all
-  gathering_ends e =
-      let m = min n 515 in
-      let size : length (take m room) ≡ m = length-take-le m room (omega (arith, g.size)) in
-      let all : take m room ≡ keeping_all kept (before_newline bytes) =
-      take_min n room g.size ∙ ap (keeping_all (take n room)) (sym e) ∙ g.line in (
-        omega (arith, g.read, ap length e),
-        record {
-          size = sym (rw (sym all) size);
-          output = rw (sym all, size) (sym (take-append-drop m room) ∙ ap (λ (l : List ℕ). take m room ++ l) g.rest);
-        },
-      )
+  found : (t : Bool) → ltb at (length bytes) ≡ t → let r = cond t (Some at) None in
+      MatchOption r (before_newline bytes ≡ bytes) (λ n. (n ≡ length (before_newline bytes)) × (n < length bytes)) ×
+      (take (unwrap_or r (length bytes)) bytes ≡ before_newline bytes)
+  found true e = ((sym size, ltb-true at (length bytes) e), sym (before_newline_is bytes))
+  found false e =
+      let all : before_newline bytes ≡ bytes = no_newline bytes (omega (arith, size, before_most bytes, ltb-false at (length bytes) e)) in
+      (all, rw all (take-length bytes))
 
-  pub gathering_at_newline :
-      i < length bytes → get_or bytes i 0 ≡ newline → (i ≡ length (before_newline bytes)) × Prints (keeping_all kept (before_newline bytes)) (min n 515) before room
-  gathering_at_newline h e =
-      gathering_ends (rw (drop-cons bytes i 0 h) (before-newline _ (drop (suc i) bytes) (eq-eqb (get_or bytes i 0) newline e)))
+  pub newline_is : (r : Option ℕ) (n : ℕ) → r ≡ position (λ b. eqb b newline) bytes → n ≡ unwrap_or r (length bytes) →
+      MatchOption r (before_newline bytes ≡ bytes) (λ n. (n ≡ length (before_newline bytes)) × (n < length bytes)) × (take n bytes ≡ before_newline bytes)
+  newline_is r n e f = rw (f, e) (found (ltb at (length bytes)) refl)
 
-  pub gathering_at_end : length bytes ≤ i → (i ≡ length (before_newline bytes)) × Prints (keeping_all kept (before_newline bytes)) (min n 515) before room
-  unfolding before_newline
-  gathering_at_end h = gathering_ends (rw (drop_of_length-le bytes h))
+-- kept at the front of a room: of some bytes k are kept behind the n that were kept before
+module _ (bytes room : List ℕ) (kept n k : ℕ) (l : length room ≡ 515) (s : n ≡ min kept 515) (f : k ≡ min (length bytes) (515 - n)) where
+  abbrev pub all : List ℕ
+  all = keeping_all (take (min kept 515) room) bytes
+
+  front : length (take n room) ≡ n
+  front = length-take-le n room (omega arith)
+
+  kept_is : all ≡ take n room ++ take k bytes
+  kept_is =
+      let fits : k ≡ min (515 - n) (length bytes) = omega arith in
+      let same : take k bytes ≡ take (515 - n) bytes = rw fits (take_min (515 - n) bytes) in
+      rw (← s, keeping_all_is bytes (take n room) (omega (arith, front)), front, same)
+
+  pub kept_size : n + k ≡ length all
+  kept_size = rw (kept_is, length-append (take n room) (take k bytes), front, length-take-le k bytes (omega arith))
+
+  pub kept_stands : take n room ++ (take k bytes ++ post_of n (n + k - n) room) ≡ with_front all room
+  unfolding with_front
+  kept_stands =
+      rw (Post-is n (n + k) room (omega arith), ← kept_size, kept_is) (sym (append_assoc (take n room) (take k bytes) (drop (n + k) room)))

@@ -1,5 +1,5 @@
--- The cases of a line's turn, that no line above 514 characters is known, that an input is answered line by line however it comes,
--- and that each public function has one answer only.
+-- The rest of a line, as the code takes it; that a frame and a read leave the image; that no line above 514 characters is known, that an
+-- input is answered line by line however it comes, and that each public function has one answer only.
 pub mod Turns
 pub mod Prefix
 pub mod TooLong

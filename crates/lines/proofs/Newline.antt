@@ -79,9 +79,9 @@ module _ (bytes : List ℕ) (c : Conversation) where
   line = keeping_all c.kept (before_newline bytes)
 
   -- with the newline behind them their line is answered
-  pub feed-line : length (before_newline bytes) < length bytes → feed (up_to_newline bytes) c ≡ answered (conversation c.device line)
+  pub feed_line : length (before_newline bytes) < length bytes → feed (up_to_newline bytes) c ≡ answered (conversation c.device line)
   unfolding feed fed pick
-  feed-line h =
+  feed_line h =
       rw (newline_behind bytes h, feed-append (before_newline bytes) (newline ∷ []) c, feed-before bytes c)
       (ap (λ (text : List ℕ). fed_to text (answered (conversation c.device line)).after) (append-nil _))
 

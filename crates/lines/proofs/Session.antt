@@ -19,7 +19,7 @@ use Rattle.rules.specs.Whole.{status_on_arrival}
 use Rattle.device.specs.Frame.{with_enabled}
 use Rattle.device.specs.Work.{run, within, steps_left}
 use Rattle.device.specs.Calls.{device, powered_up, after_frame, output_after_frame, after_steps, after_work, image_after_work}
-use Rattle.text.specs.Numbers.{value_of, with_digit, number_up_to, number_in}
+use Rattle.text.specs.Numbers.{value_of, with_digit, number_with, number_in}
 use Rattle.image.specs.Header.{count}
 use Rattle.text.specs.Printing.{decimal, count_line, number_line, work_line, read_line}
 use Rattle.lines.specs.Start.{first_image}
@@ -38,5 +38,5 @@ pub session :
     99 ∷ 111 ∷ 117 ∷ 110 ∷ 116 ∷ 101 ∷ 114 ∷ 115 ∷ 32 ∷ 52 ∷ 10 ∷ 80 ∷ 32 ∷ 48 ∷ 10 ∷ 82 ∷ 32 ∷ 48 ∷ 32 ∷ 48 ∷ 48 ∷ 70 ∷ 70 ∷ 10 ∷
     70 ∷ 32 ∷ 48 ∷ 10 ∷ 83 ∷ 32 ∷ 48 ∷ 32 ∷ 48 ∷ 10 ∷ 82 ∷ 32 ∷ 48 ∷ 32 ∷ 48 ∷ 52 ∷ 10 ∷ 70 ∷ 32 ∷ 48 ∷ 10 ∷ 70 ∷ 32 ∷ 48 ∷ 10 ∷
     82 ∷ 32 ∷ 48 ∷ 32 ∷ 48 ∷ 48 ∷ 10 ∷ []
-unfolding answers lines pick table spread all_digits bytes_in readable Hex.value_of first_of any_of is_size refusal named_class class_of read_byte read_output arrival_status longest_of longest is_running job_refusal device_refusal status_on_arrival taken arrived with_enabled run within steps_left powered_up after_frame output_after_frame after_steps after_work image_after_work value_of with_digit number_up_to number_in decimal number_line work_line read_line first_image count_line powered framed worked shown read opens alone turn
+unfolding answers lines pick table spread all_digits bytes_in readable Hex.value_of first_of any_of is_size refusal named_class class_of read_byte read_output arrival_status longest_of longest is_running job_refusal device_refusal status_on_arrival taken arrived with_enabled run within steps_left powered_up after_frame output_after_frame after_steps after_work image_after_work value_of with_digit number_with number_in decimal number_line work_line read_line first_image count_line powered framed worked shown read opens alone turn
 session = refl

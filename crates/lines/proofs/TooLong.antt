@@ -14,7 +14,8 @@ use Rattle.words.proofs.Choice.{never, either}
 use Rattle.hexadecimal.specs.Hex.{readable}
 use Rattle.hexadecimal.proofs.Readable.{too_many, odd}
 use Rattle.device.specs.Work.{Device}
-use Rattle.text.specs.Numbers.{none, number_in}
+use Rattle.std.specs.Prelude.{None}
+use Rattle.text.specs.Numbers.{number_in}
 use Rattle.text.proofs.FourDigits.{long_number}
 use Rattle.lines.specs.Turn.{Turn, unknown, framed, worked, read, opens, alone, turn}
 
@@ -35,7 +36,7 @@ module _ (d : Device) (line : List ℕ) (long : 514 < length line) where
   unfolding framed pick
   frame-unknown = rw (long_digits (drop 2 line) (rw (length-drop 2 line) (omega arith)))
 
-  number_none : number_in (drop 2 line) ≡ none
+  number_none : number_in (drop 2 line) ≡ None
   number_none = long_number (drop 2 line) (rw (length-drop 2 line) (omega arith))
 
   work_unknown : worked d (number_in (drop 2 line)) ≡ unknown d

@@ -1,25 +1,17 @@
--- The cases of `turn`, in its order; that a line which opens with a letter and a blank has a rest; and that a frame and a read leave
--- the image. Assumes nothing.
-use Prim.Native.Nat.{ℕ, ◌-◌, ◌≤◌}
+-- The cases of `turn`, in its order; the rest of a line, as the code takes it; and that a frame and a read leave the image. Assumes nothing.
+use Prim.Native.Nat.{ℕ, ◌-◌}
 use mathlib.Core.Path.{◌≡◌, refl, sym}
 use mathlib.Core.Bool.{true, false}
-use mathlib.Core.List.{List, [], ◌∷◌}
-use native.Mathlib.Omega.{arith}
+use mathlib.Core.List.{List}
 use lib.ListN.{length, take, drop, length-drop}
 use lib.Seq.{take-length}
+use Rattle.std.specs.Prelude.{Option, Some, None}
 use Rattle.words.specs.Choice.{pick}
-use Rattle.words.proofs.Choice.{never, both, either}
+use Rattle.words.proofs.Choice.{either}
 use Rattle.hexadecimal.specs.Hex.{readable}
 use Rattle.device.specs.Work.{Device}
 use Rattle.text.specs.Numbers.{number_in}
 use Rattle.lines.specs.Turn.{Turn, unknown, powered, framed, worked, shown, read, opens, alone, turn}
-
--- its second character is there
-pub opens_long : (letter : ℕ) (line : List ℕ) → opens letter line ≡ true → 2 ≤ length line
-unfolding opens
-opens_long letter [] e = absurd (never (both _ _ e).1)
-opens_long letter (x ∷ []) e = absurd (never (both _ _ e).1)
-opens_long letter (x ∷ y ∷ line) e = omega arith
 
 -- the rest of a list, as the code takes it
 pub rest : (n : ℕ) (l : List ℕ) → take (length l - n) (drop n l) ≡ drop n l
@@ -27,6 +19,7 @@ rest n l =
     let size : length l - n ≡ length (drop n l) = sym (length-drop n l) in
     rw size (take-length (drop n l))
 
+-- the cases of `turn`, in its order
 module _ (d : Device) (line : List ℕ) where
   pub turn_alone : alone 80 line ≡ true → turn d line ≡ powered d.image
   unfolding turn pick
@@ -55,8 +48,9 @@ pub framed_keeps : (d : Device) (frame : List ℕ) → (framed d frame).after.im
 unfolding framed
 framed_keeps d frame = either (λ (t : Turn). t.after.image ≡ d.image) _ _ _ (λ e. refl) (λ e. refl)
 
-pub read_keeps : (d : Device) (size : ℕ) → (read d size).after.image ≡ d.image
+pub read_keeps : (d : Device) (size : Option ℕ) → (read d size).after.image ≡ d.image
 unfolding read shown
-read_keeps d size =
+read_keeps d None = refl
+read_keeps d (Some size) =
     either (λ (t : Turn). t.after.image ≡ d.image) _ _ _ (λ e. refl)
     (λ e. either (λ (t : Turn). t.after.image ≡ d.image) _ _ _ (λ e. refl) (λ e. refl))

@@ -5,7 +5,7 @@ use Rattle.words.specs.Choice.{pick}
 use Rattle.state.specs.declared.State.{State}
 use Rattle.device.specs.Work.{Device}
 use Rattle.device.specs.Calls.{device}
-use Rattle.text.specs.Printing.{newline, Prints}
+use Rattle.text.specs.Printing.{newline}
 use Rattle.lines.specs.declared.Turned.{Turned}
 use Rattle.lines.specs.declared.Heard.{Heard}
 use Rattle.lines.specs.Turn.{turn, Gives}
@@ -96,12 +96,12 @@ unfoldable pub after_all : Device → List (List ℕ) → Device
 after_all d [] = d
 after_all d (line ∷ lines) = after_all (turn d line).after lines
 
--- a call gives what was fed, but for the image: it prints the text, and returns its length, the state, and how many bytes are kept
-pub record GivesFed (f : Fed) (r : Heard) (before after : List ℕ) : Type 0 where
-  pub prints : Prints f.text r.length before after
+-- a call gives what was fed, but for the image: the text, the state, and how many bytes are kept
+pub record GivesFed (f : Fed) (r : Heard) : Type 0 where
+  pub text : r.text.items ≡ f.text
   pub state : r.state ≡ f.after.device.state
   pub kept : r.kept ≡ length f.after.kept
 
 -- a call gives the end of the input, but for the image
-abbrev pub GivesEnd : Conversation → Turned → List ℕ → List ℕ → Type 0
-GivesEnd c r before after = Gives (ended c).text (ended c).after.device.state r before after
+abbrev pub GivesEnd : Conversation → Turned → Type 0
+GivesEnd c r = Gives (ended c).text (ended c).after.device.state r

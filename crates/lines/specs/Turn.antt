@@ -1,11 +1,11 @@
 -- Document 01, the program `rpmcrun`: what a line does, and what it prints. Assumes nothing.
-use Rattle.std.specs.Prelude.{ℕ, ◌≡◌, Bool, false, List, [], ◌∷◌, ltb, eqb, length, get_or, drop, replicate}
+use Rattle.std.specs.Prelude.{ℕ, ◌≡◌, Bool, false, Option, Some, None, List, [], ◌∷◌, ltb, eqb, length, get_or, drop, replicate}
 use Rattle.words.specs.Choice.{pick}
 use Rattle.hexadecimal.specs.Hex.{readable}
 use Rattle.device.specs.Work.{Device}
 use Rattle.device.specs.Calls.{device, powered_up, after_frame, output_after_frame, after_work, image_after_work}
 use Rattle.text.specs.Numbers.{number_in}
-use Rattle.text.specs.Printing.{blank, number_line, work_line, read_line, unknown_line, Prints}
+use Rattle.text.specs.Printing.{blank, number_line, work_line, read_line, unknown_line}
 use Rattle.state.specs.declared.State.{State}
 use Rattle.lines.specs.declared.Turned.{Turned}
 
@@ -33,8 +33,9 @@ framed d frame =
     (device d.image (after_frame d.image d.state frame).state))
 
 -- `S` a quota of 0 to 255
-unfoldable pub worked : Device → ℕ → Turn
-worked d quota =
+unfoldable pub worked : Device → Option ℕ → Turn
+worked d None = unknown d
+worked d (Some quota) =
     pick (ltb 255 quota) (unknown d)
     (turn_of (work_line (after_work d quota).number (after_work d quota).steps) (device (image_after_work d quota) (after_work d quota).state))
 
@@ -50,8 +51,9 @@ shown d bytes =
     (device d.image (after_frame d.image d.state read_frame).state)
 
 -- `R` a read of 1 to 256 bytes
-unfoldable pub read : Device → ℕ → Turn
-read d size = pick (eqb size 0) (unknown d) (pick (ltb 256 size) (unknown d) (shown d (replicate size 0)))
+unfoldable pub read : Device → Option ℕ → Turn
+read d None = unknown d
+read d (Some size) = pick (eqb size 0) (unknown d) (pick (ltb 256 size) (unknown d) (shown d (replicate size 0)))
 
 -- a line begins with this letter and a blank
 unfoldable pub opens : ℕ → List ℕ → Bool
@@ -70,11 +72,11 @@ turn d line =
     (pick (opens 82 line) (read d (number_in (drop 2 line)))
     (unknown d))))
 
--- a call gives a text and a state: it prints the text, and returns its length and the state
-pub record Gives (text : List ℕ) (s : State) (r : Turned) (before after : List ℕ) : Type 0 where
-  pub prints : Prints text r.length before after
+-- a call gives a text and a state
+pub record Gives (line : List ℕ) (s : State) (r : Turned) : Type 0 where
+  pub text : r.text.items ≡ line
   pub state : r.state ≡ s
 
 -- a call gives a turn, but for the image
-abbrev pub GivesTurn : Turn → Turned → List ℕ → List ℕ → Type 0
-GivesTurn t r before after = Gives t.text t.after.state r before after
+abbrev pub GivesTurn : Turn → Turned → Type 0
+GivesTurn t r = Gives t.text t.after.state r

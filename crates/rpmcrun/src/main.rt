@@ -5,129 +5,101 @@
 
 #![tactic(auto)]
 
-ghost use Rattle.std.specs.Prelude.{◌≤◌, ◌≡◌, true, length};
-ghost use Rattle.lines.specs.Feeding.{under_way, feed};
+ghost use Rattle.std.specs.Prelude.{◌≡◌, [], OnOk};
+ghost use Rattle.device.specs.Calls.{device};
+ghost use Rattle.state.specs.Parts.{power_on};
+ghost use Rattle.lines.specs.Feeding.{Conversation, conversation, under_way, feed};
+ghost use Rattle.lines.specs.Start.{first_image};
 
 use state::State;
 use std::io;
 use std::io::{ErrorKind, Read, Write};
+use std::marker::Model;
 use std::rt::HostRuntime;
 
-// How far the conversation has come: the device's state, how many bytes of the next line are kept, and whether it goes on.
-#[derive(Clone, Copy)]
+// How far the conversation has come: the device's image and state, and the line under way, of which the first bytes are kept.
+//
+// kept: the line and its length are two fields, as `lines::hear` takes them.
+#[derive(Drop)]
 struct Talk {
+    image: [u8; 208],
     state: State,
+    line: [u8; 515],
     kept: usize,
-    goes_on: bool,
 }
 
-// Writes the first bytes of a text; where there are none, it makes no call. Says whether they could be written.
-fn send(rt: &HostRuntime, text: &[u8], n: usize) -> bool
-    requires { n ≤ length text.now }
-{
-    rt.stdout().write_all(&text[..n]).is_ok()
+// A clause sees the conversation that it is.
+impl Model for Talk {
+    ghost Value = { Conversation };
+
+    ghost view = { λ talk. under_way talk.image talk.state talk.line talk.kept };
 }
 
-// Feeds the bytes that were read to the conversation, a line at a time. Where it goes on, all of them were.
-fn hear(
-    rt: &HostRuntime,
-    chunk: &[u8],
-    image: &mut [u8],
-    t: Talk,
-    line: &mut [u8; 515],
-    out: &mut [u8; 517],
-) -> Talk
-    ensures { result.goes_on ≡ true → under_way image.new result.state line.new result.kept ≡ (feed chunk.now (under_way image.old t.state line.old t.kept)).after }
-{
-    let mut s = t.state;
-    let mut kept = t.kept;
-    let mut at = 0;
-    let mut goes_on = true;
-    while at < chunk.len() && goes_on {
-        let heard = lines::hear(&chunk[at..], image, s, line, kept, out);
-        let n = heard.length;
-        let after = heard.state;
-        s = after;
-        kept = heard.kept;
-        at += heard.used;
-        goes_on = send(rt, out, n);
+impl Talk {
+    // A conversation with a device that has its first image.
+    fn new() -> Talk
+        ensures { result ≡ conversation (device first_image power_on) [] }
+    {
+        Talk {
+            image: lines::first_image(),
+            state: state::power_on(),
+            line: [0u8; 515],
+            kept: 0,
+        }
     }
-    Talk {
-        state: s,
-        kept,
-        goes_on,
+
+    // Feeds the bytes that were read to the conversation, a line at a time, and writes each answer. Where each could be written, all
+    // bytes were fed.
+    #[tactic(auto, unfolding(lines::specs::Feeding::feed), using(lines::proofs::Hearing::hear_on))]
+    fn hear(&mut self, rt: &HostRuntime, bytes: &[u8]) -> io::Result<()>
+        ensures { OnOk result (self.new ≡ (feed bytes.now self.old).after) }
+    {
+        let mut rest = bytes;
+        while !rest.is_empty() {
+            let heard = lines::hear(rest, &mut self.image, self.state, &mut self.line, self.kept);
+            self.state = heard.state;
+            self.kept = heard.kept;
+            rest = &rest[heard.used..];
+            send(rt, &heard.text)?;
+        }
+        Ok(())
     }
-}
 
-// The end of the input: a last line without newline is answered too.
-fn end(rt: &HostRuntime, image: &mut [u8], t: Talk, line: &[u8; 515], out: &mut [u8; 517]) -> Talk {
-    let turned = lines::ended(image, t.state, line, t.kept, out);
-    let n = turned.length;
-    send(rt, out, n);
-    over(t)
-}
-
-// A conversation that does not go on.
-fn over(t: Talk) -> Talk {
-    let mut last = t;
-    last.goes_on = false;
-    last
-}
-
-// A read that failed. One that a signal has interrupted is made again; after any other the input has not ended, so the line under
-// way is no line, and standard error is told why.
-fn failed(rt: &HostRuntime, why: io::Error, t: Talk) -> Talk {
-    if why.kind() == ErrorKind::Interrupted {
-        return t;
-    }
-    let _ = eprintln!(rt; "rpmcrun: standard input: {why}");
-    over(t)
-}
-
-// Reads once, and goes over what came.
-fn listen(
-    rt: &HostRuntime,
-    chunk: &mut [u8],
-    image: &mut [u8],
-    t: Talk,
-    line: &mut [u8; 515],
-    out: &mut [u8; 517],
-) -> Talk {
-    match rt.stdin().read(chunk) {
-        Err(why) => failed(rt, why, t),
-        Ok(0) => end(rt, image, t, line, out),
-        Ok(n) => hear(rt, &chunk[..n], image, t, line, out),
+    // The end of the input: a last line without newline is answered too.
+    fn end(&mut self, rt: &HostRuntime) -> io::Result<()> {
+        let turned = lines::ended(&mut self.image, self.state, &self.line, self.kept);
+        send(rt, &turned.text)
     }
 }
 
-// Answers the lines of standard input until it ends, or until it cannot be read or an answer cannot be written.
-fn converse(rt: &HostRuntime, image: &mut [u8], out: &mut [u8; 517]) {
+// Writes a text in one write; where it is empty, in none.
+fn send(rt: &HostRuntime, text: &[u8]) -> io::Result<()> {
+    rt.stdout().write_all(text)
+}
+
+// Answers the lines of standard input until it ends or cannot be read, or fails where an answer cannot be written.
+fn converse(rt: &HostRuntime) -> io::Result<()> {
+    let mut talk = Talk::new();
+    send(rt, &lines::first_line(&talk.image))?;
     let mut chunk = [0u8; 65536];
-    let mut line = [0u8; 515];
-    let mut talk = Talk {
-        state: state::power_on(),
-        kept: 0,
-        goes_on: true,
-    };
-    // a proved loop has to end, and nothing says that the input does: so it counts down from a number that no run uses up
-    let mut reads = u64::MAX;
-    while reads > 0 && talk.goes_on {
-        let next = listen(rt, &mut chunk, image, talk, &mut line, out);
-        talk = next;
-        reads -= 1;
+    // a proved loop has to end, and nothing says that the input does: so reads are counted, up to a number that no run uses up
+    for _ in 0..u64::MAX {
+        match rt.stdin().read(&mut chunk) {
+            Ok(0) => return talk.end(rt),
+            Ok(n) => talk.hear(rt, &chunk[..n])?,
+            // a read that a signal has interrupted is made again
+            Err(why) if why.kind() == ErrorKind::Interrupted => {}
+            // after any other the input has not ended, so the line under way is no line
+            Err(why) => {
+                let _ = eprintln!(rt; "rpmcrun: standard input: {why}");
+                return Ok(());
+            }
+        }
     }
-}
-
-// Writes the first line, the count. Says whether it could be written.
-fn greet(rt: &HostRuntime, image: &[u8], out: &mut [u8; 517]) -> bool {
-    let n = lines::first_line(image, out);
-    send(rt, out, n)
+    Ok(())
 }
 
 fn main(rt: HostRuntime) {
-    let mut image = lines::first_image();
-    let mut out = [0u8; 517];
-    if greet(&rt, &image, &mut out) {
-        converse(&rt, &mut image, &mut out);
-    }
+    // where an answer could not be written, nobody reads, and the program just ends
+    let _ = converse(&rt);
 }
