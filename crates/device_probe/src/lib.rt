@@ -1,4 +1,6 @@
 // C entries for tests and benchmarks of the device, and for nothing else. A state goes in and out as its 383 bytes.
+//
+// kept: numbers in the place of a Result, as C has them.
 
 #![tactic(auto)]
 
@@ -15,7 +17,7 @@ pub extern "C" fn probe_power_up(image: &[u8], state: &mut [u8; 383]) -> u32
 {
     let up = device::power_up(image);
     packed::pack(up.state, state);
-    up.number
+    refusals::number_of(up.outcome)
 }
 
 // One frame: its number; the state is taken from `state` and goes back there.
@@ -33,7 +35,7 @@ pub extern "C" fn probe_frame(
     let s = packed::unpack(state);
     let after = device::frame(image, s, frame, output);
     packed::pack(after.state, state);
-    after.number
+    refusals::number_of(after.outcome)
 }
 
 // Work: its number; the steps done go to `steps`.
@@ -53,7 +55,7 @@ pub extern "C" fn probe_work(
     let worked = device::work(image, s, quota);
     packed::pack(worked.state, state);
     *steps = [worked.steps];
-    worked.number
+    refusals::number_of(worked.outcome)
 }
 
 // A state in and out, and nothing else: what the other entries cost beside their call.

@@ -1,4 +1,5 @@
--- The laws of bytes stored one behind the other, and that each public function has one answer only.
+-- The laws of bytes stored one behind the other, of a flag as a byte, and that each public function has one answer only.
+pub mod Codes
 pub mod Runs
 pub mod OneAnswer
 pub mod RoundTrip

@@ -1,16 +1,12 @@
 -- The state that some bytes stand for. Bytes that are not there read as 0. Assumes nothing.
-use Rattle.std.specs.Prelude.{ℕ, ◌+◌, ◌*◌, List, [], ◌∷◌, get_or}
-use Rattle.words.specs.Table.{table, field}
-use Rattle.words.specs.Words.{word_or0}
+use Rattle.std.specs.Prelude.{ℕ, ◌+◌, List, [], ◌∷◌, get_or}
+use Rattle.words.specs.Table.{field}
+use Rattle.words.specs.Words.{word_or0, words_at}
 use Rattle.frames.specs.declared.Reply.{Reply}
 use Rattle.state.specs.declared.Key.{Key}
 use Rattle.state.specs.declared.Job.{Job}
 use Rattle.state.specs.declared.State.{State}
 use Rattle.packed.specs.Codes.{flag_of, kind_of}
-
--- the n words that start at a place
-abbrev pub words_at : ℕ → ℕ → List ℕ → List ℕ
-words_at at n s = table (λ i. word_or0 s (at + 4 * i)) n
 
 -- a session key: whether it is there, then its 32 bytes
 abbrev pub key_at : ℕ → List ℕ → Key

@@ -14,17 +14,16 @@ ghost use Rattle.packed.specs.Packed.{packed};
 use state::State;
 
 // The state that some bytes stand for.
+#[tactic(auto, unfolding(crate::specs::Unpacked::unpacked))]
 pub fn unpack(s: &[u8]) -> State
     ensures { result ≡ unpacked s.now }
 {
-    let keys = reading::keys_of(s);
-    let chain = reading::chain_of(s);
     State {
         status: words::byte(s, 0),
-        keys,
+        keys: reading::keys_of(s),
         reply: reading::reply_of(s),
         enabled: reading::flag_at(s, 1),
-        chain,
+        chain: words::words_at(s, 191),
         job: reading::job_of(s),
     }
 }
@@ -33,10 +32,8 @@ pub fn unpack(s: &[u8]) -> State
 pub fn pack(s: State, out: &mut [u8; 383])
     ensures { out.new ≡ packed s }
 {
-    let mut bytes = [0u8; 383];
-    storing::put_head(s, &mut bytes);
-    storing::put_reply(s, &mut bytes);
-    storing::put_keys(s, &mut bytes);
-    storing::put_work(s, &mut bytes);
-    *out = bytes;
+    storing::put_head(s, out);
+    storing::put(&s.reply.bytes, 11, out);
+    storing::put_keys(s, out);
+    storing::put_work(s, out);
 }

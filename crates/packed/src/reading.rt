@@ -1,14 +1,15 @@
 // The parts of a state, read from its bytes. Bytes that are not there read as 0.
 ghost use Rattle.std.specs.Prelude.{◌≡◌, ◌≤◌, get_or};
-ghost use Rattle.words.specs.Table.{field};
 ghost use Rattle.packed.specs.Codes.{flag_of, kind_of};
-ghost use Rattle.packed.specs.Unpacked.{words_at, key_at, keys_of, reply_of, job_of};
+ghost use Rattle.packed.specs.Unpacked.{key_at, keys_of, reply_of, job_of};
 
 use frames::Reply;
 use jobs::Kind;
 use state::{Job, Key};
 
-// The flag at a place.
+// The flag at a place: 1 is yes.
+//
+// kept: no TryFrom, since every other byte is no.
 pub(crate) fn flag_at(s: &[u8], at: usize) -> bool
     ensures { result ≡ flag_of (get_or s.now at 0) }
 {
@@ -16,69 +17,21 @@ pub(crate) fn flag_at(s: &[u8], at: usize) -> bool
 }
 
 // The kind of job of a number.
+//
+// kept: no From, which only the crate of the kinds could have, and these numbers are this form's own.
+#[tactic(auto, unfolding(crate::specs::Codes::kind_of, words::specs::Choice::pick))]
 fn kind_of(number: u8) -> Kind
     ensures { result ≡ kind_of number }
 {
-    if number == 0 {
-        return Kind::RootKeyAndCounter;
+    match number {
+        0 => Kind::RootKeyAndCounter,
+        1 => Kind::RootKey,
+        2 => Kind::TemporaryKeyAndCounter,
+        3 => Kind::TemporaryKey,
+        4 => Kind::SessionKey,
+        5 => Kind::Increment,
+        _ => Kind::Request,
     }
-    if number == 1 {
-        return Kind::RootKey;
-    }
-    if number == 2 {
-        return Kind::TemporaryKeyAndCounter;
-    }
-    if number == 3 {
-        return Kind::TemporaryKey;
-    }
-    if number == 4 {
-        return Kind::SessionKey;
-    }
-    if number == 5 {
-        return Kind::Increment;
-    }
-    Kind::Request
-}
-
-// The 32 bytes from a place on.
-fn bytes_32(s: &[u8], at: usize) -> [u8; 32]
-    ensures { result ≡ field at 32 s.now }
-{
-    let mut b = [0u8; 32];
-    words::copy(s, at, &mut b);
-    b
-}
-
-// The 48 bytes from a place on.
-fn bytes_48(s: &[u8], at: usize) -> [u8; 48]
-    ensures { result ≡ field at 48 s.now }
-{
-    let mut b = [0u8; 48];
-    words::copy(s, at, &mut b);
-    b
-}
-
-// The 64 bytes from a place on.
-fn bytes_64(s: &[u8], at: usize) -> [u8; 64]
-    ensures { result ≡ field at 64 s.now }
-{
-    let mut b = [0u8; 64];
-    words::copy(s, at, &mut b);
-    b
-}
-
-// The eight words from a place on.
-fn words_8(s: &[u8], at: usize) -> [u32; 8]
-    requires { at ≤ 383 }
-    ensures { result ≡ words_at at 8 s.now }
-{
-    let mut w = [0u32; 8];
-    let mut i = 0;
-    while i < 8 {
-        w[i] = words::get(s, at + 4 * i);
-        i += 1;
-    }
-    w
 }
 
 // The session key from a place on.
@@ -86,60 +39,42 @@ fn key_at(s: &[u8], at: usize) -> Key
     requires { at ≤ 382 }
     ensures { result ≡ key_at at s.now }
 {
-    let there = flag_at(s, at);
-    let bytes = bytes_32(s, at + 1);
-    Key { there, bytes }
+    Key {
+        there: flag_at(s, at),
+        bytes: words::part(s, at + 1),
+    }
 }
 
 // The four session keys.
 pub(crate) fn keys_of(s: &[u8]) -> [Key; 4]
     ensures { result ≡ keys_of s.now }
 {
-    let first = key_at(s, 59);
-    let second = key_at(s, 92);
-    let third = key_at(s, 125);
-    let fourth = key_at(s, 158);
-    [first, second, third, fourth]
-}
-
-// The chaining words.
-pub(crate) fn chain_of(s: &[u8]) -> [u32; 8]
-    ensures { result ≡ words_at 191 8 s.now }
-{
-    words_8(s, 191)
+    [key_at(s, 59), key_at(s, 92), key_at(s, 125), key_at(s, 158)]
 }
 
 // The reply.
 pub(crate) fn reply_of(s: &[u8]) -> Reply
     ensures { result ≡ reply_of s.now }
 {
-    let there = flag_at(s, 10);
-    let bytes = bytes_48(s, 11);
-    Reply { there, bytes }
+    Reply {
+        there: flag_at(s, 10),
+        bytes: words::part(s, 11),
+    }
 }
 
 // The job.
 pub(crate) fn job_of(s: &[u8]) -> Job
     ensures { result ≡ job_of s.now }
 {
-    let there = flag_at(s, 2);
-    let kind = kind_of(words::byte(s, 3));
-    let counter = words::byte(s, 4);
-    let step = words::byte(s, 5);
-    let kept = words::get(s, 6);
-    let inner = words_8(s, 223);
-    let frame = bytes_64(s, 255);
-    let root_key = bytes_32(s, 319);
-    let made = bytes_32(s, 351);
     Job {
-        there,
-        kind,
-        counter,
-        step,
-        frame,
-        root_key,
-        made,
-        inner,
-        kept,
+        there: flag_at(s, 2),
+        kind: kind_of(words::byte(s, 3)),
+        counter: words::byte(s, 4),
+        step: words::byte(s, 5),
+        frame: words::part(s, 255),
+        root_key: words::part(s, 319),
+        made: words::part(s, 351),
+        inner: words::words_at(s, 223),
+        kept: words::get(s, 6),
     }
 }

@@ -7,6 +7,6 @@ use Rattle.packed.proofs.pack.Goals as goal
 pub returns : goal.returns
 unfolding packed
 returns c =
-    let two = and_then c.put_head.ensures c.put_reply.ensures refl in
+    let two = and_then c.put_head.ensures c.put.ensures refl in
     let three = and_then two c.put_keys.ensures refl in
-    stored-all (and_then three c.put_work.ensures refl) refl
+    stored-all (and_then three c.put_work.ensures refl) c.told-out
