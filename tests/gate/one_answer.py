@@ -1,7 +1,7 @@
 #!/usr/bin/env python3
 """Compares the public functions with docs/CONTRACTS.md and with the one-answer theorems of their crates.
 
-Each `pub fn` has a row in the section of its crate. The last column of the row names its theorems, and
+Each `pub fn`, and each conversion by From or TryFrom, has a row in the section of its crate. The last column of the row names its theorems, and
 those of the section are those of proofs/OneAnswer.antt. Each speaks of the contract of its function. One is
 of the result, if the function has one, and one of each buffer that it is lent to write.
 
@@ -20,8 +20,11 @@ from shared.tally import Failed, Tally  # noqa: E402
 ROOT = pathlib.Path(__file__).resolve().parents[2]
 COLUMN = "One answer"
 PUBLIC = re.compile(r'^pub (?:extern "C" )?fn (\w+)(.*?)^    (?:requires|ensures)\b', re.MULTILINE | re.DOTALL)
-READS = re.compile(r"^use .*\.proofs\.(\w+)\.Reads as ([\w-]+)$", re.MULTILINE)
-THEOREM = re.compile(r"^([\w-]+) : One(Result|Lent|Seen) ([\w-]+)\.Post\b", re.MULTILINE)
+CONVERSION = re.compile(r"^impl (From|TryFrom)<(\w+)> for (\w+) \{", re.MULTILINE)
+ROW = re.compile(r"`(?:impl (From|TryFrom)<(\w+)> for (\w+)|(\w+))")
+READS = re.compile(r"^use .*\.proofs\.([\w.]+)\.Reads as ([\w-]+)$", re.MULTILINE)
+# of a function that is generic, a theorem is said of each type or number
+THEOREM = re.compile(r"^([\w-]+) :\s(?:\s*\(.* →\s+)?One(Result|Lent|Seen) \(?([\w-]+)\.Post\b", re.MULTILINE)
 
 
 def theorems_in(cell):
@@ -30,10 +33,23 @@ def theorems_in(cell):
     return [names[0] + name if name.startswith("_") else name for name in names]
 
 
+def conversion(trait, source, target):
+    """The name under which the prover has the function of a conversion."""
+    named = "".join(word[0].upper() + word[1:] for word in (target, trait, source))
+    return f"{named}.{'from' if trait == 'From' else 'try_from'}"
+
+
+def name_of(row):
+    """What a row is of: a conversion or a function."""
+    trait, source, target, function = ROW.match(row).groups()
+    return function or conversion(trait, source, target)
+
+
 def check(code, section, proofs):
     """What a crate's code, its section of the page and its theorems say is the same."""
-    rows = {re.match(r"`(\w+)", row)[1]: theorems_in(cell) for row, cell in functions(section, COLUMN).items()}
+    rows = {name_of(row): theorems_in(cell) for row, cell in functions(section, COLUMN).items()}
     public = {name: signature for name, signature in PUBLIC.findall(code)}
+    public |= {conversion(*found): "-> Self" for found in CONVERSION.findall(code)}
     if rows.keys() != public.keys():
         raise Failed(f"a function without its row, or the other way: {', '.join(sorted(rows.keys() ^ public.keys()))}")
     read = {alias: function for function, alias in READS.findall(proofs)}
@@ -64,6 +80,8 @@ SPOILED = {
     "a function of a module": ("sha256", 0, r"^pub\(crate\) fn ch\(", "pub fn ch("),
     "a theorem that is not there": ("words", 2, r"^word_one :", "another_one :"),
     "a theorem of another function": ("words", 2, r"^word_one : OneResult word-reads", "word_one : OneResult bytes-reads"),
+    "a conversion without a row": ("refusals", 1, r"^\| `impl From<Refusal> for u32`.*\n", ""),
+    "a generic function without a theorem": ("words", 2, r"^part_one :", "another_one :"),
     "a buffer without a theorem": ("words", 0, r"^pub fn word\(", "pub fn word(more: &mut u8, "),
     "a result without a theorem": ("host", 0, r"^(pub fn part<.*) -> .*$", r"\1"),
 }
