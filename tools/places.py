@@ -21,7 +21,7 @@ POINTS = {
         r"^pub extern \"C\" fn probe_(?:hash|hmac|power_up|frame|work)\("],
     "1 a number for none, or for a kind": [
         r"^const NONE", rf"fn (?:value_of|with_digit|number_in)\([^)]*\) {NUMBER}", r"pub fn read\(text[^)]*\) -> usize",
-        r"fn \w+\([^)]*frame_type: u8", r"fn kind_of\(number: u8"],
+        r"fn \w+(?:<[^(]*>)?\([^)]*frame_type: u8", r"fn kind_of\(number: u8"],
     "2 twins, by a size or a number in the name": [
         r"fn \w+_(?:8|16|32|48|64)\(", r"fn sum[2-9]\(", r"fn (?:big|small)_sigma[01]\(", r"fn t[12]\(", r"fn key_and_(?:counter|root)_store\(",
         r"fn (?:session|request|front)_block\(", r"fn rotations(?:_and_shift)?\("],
@@ -41,7 +41,7 @@ POINTS = {
 def text(path):
     """A file, each of its signatures on one line."""
     code = re.sub(r"^ *//.*$", "", path.read_text(), flags=re.MULTILINE)
-    return re.sub(r"((?:pub |extern \"C\" |fn )[^{;=]*?(?=\n    (?:requires|ensures)\b|\{))",
+    return re.sub(r"((?:pub(?:\(crate\))? )?(?:extern \"C\" )?fn [^{;=]*?(?=\n    (?:requires|ensures)\b|\{))",
                   lambda found: re.sub(r"\s+", " ", found[1]).rstrip(" "), code).replace("\n    requires", " requires").replace("\n    ensures", " ensures")
 
 

@@ -1,6 +1,8 @@
 // What a taken OP1 frame meets on arrival: checks 1 to 7; and the failures of all ten checks.
 //
 // Contracts cite specs/, document 01's list as a table.
+//
+// kept: matches on enums that pick a value or a call, since each arm is proved by itself and none can be left out.
 
 #![tactic(auto)]
 
@@ -117,7 +119,7 @@ fn head_status(
     Ok(())
 }
 
-// Checks 1 to 7: the first that fails. What is too short is told before a byte of it is read.
+// Checks 1 to 7: the first that fails. A byte that is not there reads as 0, and the length is then wrong.
 #[tactic(auto, unfolding(crate::specs::Checks::arrival_status, words::specs::Rows::first_of, words::specs::Choice::pick))]
 pub fn arrival_status(frame: &[u8], count: u32, slot: Slot, has_key: bool) -> Result<(), Failure>
     ensures { status_of result ≡ arrival_status frame.now count slot has_key }

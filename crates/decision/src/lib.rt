@@ -2,6 +2,8 @@
 //
 // The digest is secret until it is compared, and compared at every word, whatever is found: which words differ picks no branch
 // and no index.
+//
+// kept: matches on enums that pick a value or a call, since each arm is proved by itself and none can be left out.
 
 #![tactic(auto)]
 
@@ -26,8 +28,7 @@ fn signature_at(command: Command) -> usize
 {
     match command {
         Command::WriteRootKey => 32,
-        Command::UpdateSessionKey => 8,
-        Command::IncrementCounter => 8,
+        Command::UpdateSessionKey | Command::IncrementCounter => 8,
         Command::RequestCounter => 16,
     }
 }

@@ -2,6 +2,9 @@
 //
 // Each call takes any image, state, frame, buffer and quota, and its contract fixes the answer, the state and every lent byte.
 // The image is lent to a frame call for reading alone: no frame stores a word, only steps do.
+//
+// kept: the image and the state are two parameters, since a call writes the one in place and answers the other; and a match on the
+// class of a frame, since each arm is proved by itself and none can be left out.
 
 #![tactic(auto)]
 

@@ -45,7 +45,7 @@ pub fn class_of(frame: &[u8]) -> Class
 }
 
 // The reply of a request, or that there is none; its bytes are then zeros.
-// kept: no Option, since a caller may hand in bytes with the flag off, and has them back as they were.
+// kept: no Option. `device::frame` takes any state, also one with bytes and the flag off, and the clause of `probe_state` gives it back.
 #[derive(Clone, Copy)]
 pub struct Reply {
     pub there: bool,

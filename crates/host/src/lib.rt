@@ -71,7 +71,8 @@ impl<const N: usize> Build<N> {
 
     // Fills the front of the output with a frame of a type: head, data and their signature.
     //
-    // kept: the type is its number, the byte of the frame, by which the frame table says its length; the commands are the device's.
+    // kept, here and in build_signed: the type is its number, the byte of the frame, by which the frame table says its length; the
+    // commands are the device's.
     fn put_signed(self, frame_type: u8, out: &mut [u8])
         requires { (N ≤ 12) × (N + 36 ≤ length out.old) }
         ensures { out.new ≡ with_front (signed_by self.entry.key (head frame_type self.entry.counter ++ self.entry.bytes)) out.old }
@@ -162,7 +163,7 @@ fn put_root(counter: u8, key: &[u8; 32], out: &mut [u8])
     words::place(&signed[4..32], 36, out);
 }
 
-// Builds a root key frame, type 00: the key sent, and the last 28 bytes of its signature.
+// Builds a root key frame, type 00: the key sent, and the last 28 bytes of its signature. What it carries is its key.
 #[tactic(auto, unfolding(words::specs::Choice::pick), using(refusals::proofs::Numbers::numbered))]
 pub fn build_root_key(counter: u32, key: &[u8], out: &mut [u8]) -> Result<(), Refusal>
     ensures { Answers (built_root_key counter key.now out.old) (number_of result) out.new }

@@ -1,4 +1,6 @@
 // A line gathered in its room of 515 bytes, up to its newline.
+//
+// kept: the line and its length are two, as `lines::hear` takes them.
 ghost use Rattle.std.specs.Prelude.{◌≡◌, ◌==◌, ◌<◌, min, length, take, position, MatchOption};
 ghost use Rattle.words.specs.Words.{with_front};
 ghost use Rattle.lines.specs.Feeding.{before_newline, keeping_all};

@@ -2,6 +2,8 @@
 // word of the image is written.
 //
 // Contracts cite specs/: a list of stores for each kind of job, in document 01's order.
+//
+// kept: matches on enums that pick a value or a call, since each arm is proved by itself and none can be left out.
 
 #![tactic(auto)]
 

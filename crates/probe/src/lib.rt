@@ -2,7 +2,7 @@
 //
 // Each hands over the whole answer of one call, so that C sees the digest of a refused call too.
 //
-// kept: numbers and lent arrays in the place of a Result, as C has them.
+// kept: numbers and lent arrays in the place of a Result, and two entries that differ in what they hash, as C has them.
 
 #![tactic(auto)]
 

@@ -40,6 +40,8 @@ impl From<Refusal> for u32 {
 }
 
 // The number of an outcome.
+//
+// kept: no From, since neither a Result nor a number is this crate's.
 pub fn number_of<T: Copy>(outcome: Result<T, Refusal>) -> u32
     ensures { result ≡ number_of outcome }
 {

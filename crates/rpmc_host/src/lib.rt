@@ -3,7 +3,7 @@
 // Each is one call of the host's library, on numbers and byte slices. include/rpmc_host.h says it to C programmers, and
 // crates/rpmc_host_c exports each under its name: a crate is a library, as this one is, or a static library.
 //
-// kept: numbers in the place of a Result, as C has them.
+// kept: numbers in the place of a Result, and each entry beside its like in crates/rpmc_host_c, as C has them.
 
 #![tactic(auto)]
 

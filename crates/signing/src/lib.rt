@@ -1,6 +1,8 @@
 // The hash steps of a job: which key and which message its HMAC is of, and the block that a step hashes.
 //
 // Contracts cite specs/, document 01's table of signatures. How an HMAC is made of blocks is `hmac`'s.
+//
+// kept: matches on enums that pick a value or a call, since each arm is proved by itself and none can be left out.
 
 #![tactic(auto)]
 
@@ -29,7 +31,9 @@ fn quarter_of(step: u8) -> Quarter
 }
 
 // The key that a root key frame sends.
-// kept: no `words::part`, which copies byte by byte: steps 5 to 8 of a session key job then take some 120 instructions more (measured).
+//
+// kept: no `words::part`, which copies byte by byte: steps 5 to 8 of a session key job then take some 120 instructions more, and the
+// last, measured at 3,863, is above the aim of 1.25 blocks.
 fn key_sent(frame: [u8; 64]) -> [u8; 32]
     ensures { result ≡ field 4 32 frame }
 {

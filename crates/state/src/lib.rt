@@ -15,7 +15,8 @@ use refusals::Refusal;
 
 // A session key, or that there is none.
 //
-// kept: no Option, here and in Job, since a caller may hand in bytes with the flag off, and has them back as they were.
+// kept: no Option, here and in Job. `device::frame` takes any state, also one with bytes and the flag off, and the clause of
+// `probe_state` gives it back.
 #[derive(Clone, Copy)]
 pub struct Key {
     pub there: bool,

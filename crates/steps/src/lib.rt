@@ -1,6 +1,8 @@
 // One step of a job: one SHA-256 block, or one aligned image word stored. The last step posts the status.
 //
 // Contracts cite specs/, document 01's section "Steps".
+//
+// kept: matches on enums that pick a value or a call, since each arm is proved by itself and none can be left out.
 
 #![tactic(auto)]
 

@@ -57,6 +57,8 @@ pub fn number_in(text: &[u8]) -> Option<u32>
 }
 
 // The character of a number's last decimal digit.
+//
+// kept: `char::from_digit` gives a char, which would be made a byte again.
 fn last_digit(n: u32) -> u8
     ensures { result ≡ 48 + n % 10 }
 {
