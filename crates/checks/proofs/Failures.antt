@@ -1,7 +1,6 @@
 -- The outcome of checks that a status tells: no two failures post one status, and none posts 0. Assumes nothing.
 use mathlib.Core.Path.{◌≡◌, refl, ap, sym, ◌∙◌}
 use Rattle.std.specs.Prelude.{ℕ, ◌/◌, Result, Ok, Err, [], ◌∷◌, get_or, eqb, false}
-use Rattle.words.specs.Choice.{pick, or_else}
 use Rattle.checks.specs.declared.Failure.{Failure}
 use Rattle.checks.specs.declared.Failure.TheVariants.{WrongState, WrongFrame, NoCounter, NotReady, WrongData, Fatal}
 use Rattle.checks.specs.Failures.{status, status_of}
@@ -43,23 +42,3 @@ posts NoCounter = refl
 posts NotReady = refl
 posts WrongData = refl
 posts Fatal = refl
-
-failed_first : (failure : Failure) (after : ℕ) → or_else (status failure) after ≡ status failure
-unfolding pick
-failed_first WrongState after = refl
-failed_first WrongFrame after = refl
-failed_first NoCounter after = refl
-failed_first NotReady after = refl
-failed_first WrongData after = refl
-failed_first Fatal after = refl
-
--- checks behind others, as `?` has them: a failure comes first, and where there is none what is told after it
-module _ (outcome : Result (Unit {0}) Failure) (first after : ℕ) (told : status_of outcome ≡ first) where
-  pub failed : (failure : Failure) → outcome ≡ Err failure → status failure ≡ or_else first after
-  failed failure e =
-      let here : first ≡ status failure = sym told ∙ rw e in rw here (sym (failed_first failure after))
-
-  pub passed : (done : Unit {0}) → outcome ≡ Ok done → after ≡ or_else first after
-  unfolding pick
-  passed done e =
-      let here : first ≡ 0 = sym told ∙ rw e in rw here

@@ -1,3 +1,3 @@
--- What a taken OP1 frame meets on arrival: checks 1 to 7.
+-- The ten checks that a taken OP1 frame meets, and the status that each failure posts.
 pub mod Checks
 pub mod Failures

@@ -1,7 +1,6 @@
 -- The outcome that a number tells: no two refusals have one number. Assumes nothing.
 use mathlib.Core.Path.{◌≡◌, refl, ap, sym, ◌∙◌}
 use Rattle.std.specs.Prelude.{ℕ, [], ◌∷◌, Result, Ok, Err, get_or, eqb, false}
-use Rattle.words.specs.Choice.{pick, or_else}
 use Rattle.refusals.specs.declared.Refusal.{Refusal}
 use Rattle.refusals.specs.declared.Refusal.TheVariants.{
   ImageLength,
@@ -70,26 +69,3 @@ numbered InputLength = refl
 numbered OutputLength = refl
 numbered ReplyLength = refl
 numbered MessageLength = refl
-
-refused_first : (refusal : Refusal) (after : ℕ) → or_else (number refusal) after ≡ number refusal
-unfolding pick
-refused_first ImageLength after = refl
-refused_first CounterCount after = refl
-refused_first Layout after = refl
-refused_first Job after = refl
-refused_first CounterNumber after = refl
-refused_first InputLength after = refl
-refused_first OutputLength after = refl
-refused_first ReplyLength after = refl
-refused_first MessageLength after = refl
-
--- tests behind others, as `?` has them: a refusal comes first, and where there is none what is told after it
-module _ (outcome : Result (Unit {0}) Refusal) (first after : ℕ) (told : number_of outcome ≡ first) where
-  pub refused : (refusal : Refusal) → outcome ≡ Err refusal → number refusal ≡ or_else first after
-  refused refusal e =
-      let here : first ≡ number refusal = sym told ∙ rw e in rw here (sym (refused_first refusal after))
-
-  pub accepted : (done : Unit {0}) → outcome ≡ Ok done → after ≡ or_else first after
-  unfolding pick
-  accepted done e =
-      let here : first ≡ 0 = sym told ∙ rw e in rw here

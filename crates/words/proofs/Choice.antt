@@ -28,6 +28,15 @@ unfolding pick
 either P true a b f g = f refl
 either P false a b f g = g refl
 
+-- of two numbers, one told after the other: the first where it is not 0, else the second
+pub first_told : (first second : ℕ) → eqb first 0 ≡ false → first ≡ or_else first second
+unfolding pick
+first_told first second e = rw e
+
+pub second_told : (first second : ℕ) → first ≡ 0 → second ≡ or_else first second
+unfolding pick
+second_told first second e = rw e
+
 -- of two numbers one of which is told, both are 0 where 0 is told
 or_zero_by : (a b : ℕ) (t : Bool) → eqb a 0 ≡ t → pick t b a ≡ 0 → (a ≡ 0) × (b ≡ 0)
 unfolding pick
