@@ -1,4 +1,7 @@
--- The byte of a pair of characters, what is not readable, and that each public function has one answer only.
+-- The digits of bytes, the byte of a pair of characters, a text of digits, what is readable and what is not, and that each public
+-- function has one answer only.
+pub mod InDigits
 pub mod Pairs
+pub mod AllDigits
 pub mod Readable
 pub mod OneAnswer
