@@ -1,13 +1,14 @@
 -- The conversation that a call of `hear` leaves, and the bytes behind those that it heard. Assumes nothing.
-use Prim.Native.Nat.{ℕ, zero, suc, ◌-◌, ◌≤◌, min}
+use Prim.Native.Nat.{ℕ, zero, suc, ◌+◌, ◌-◌, ◌≤◌, ◌<◌, min}
 use mathlib.Core.Path.{◌≡◌, refl, sym, ap, ◌∙◌}
 use mathlib.Core.Bool.{Bool, true, false}
 use mathlib.Core.List.{List, [], ◌∷◌, ◌++◌}
 use native.Mathlib.Omega.{arith}
 use borrow.Author.Tests.{ltb-true, ltb-false}
 use lib.Dec.{ltb}
-use lib.ListN.{length, take, drop, length-take}
+use lib.ListN.{length, take, drop, length-take, length-drop}
 use lib.Seq.{take_at}
+use Rattle.arrayvec.specs.ArrayVec.{ArrayVec}
 use Rattle.state.specs.declared.State.{State}
 use Rattle.device.specs.Work.{Device}
 use Rattle.device.specs.Calls.{device}
@@ -31,6 +32,25 @@ pub hear_rest :
 hear_rest bytes c n e =
     rw e (ap (λ (l : List ℕ). feed l c) (sym (front_rest (suc (length (before_newline bytes))) bytes)) ∙ feed-append (up_to_newline bytes) _ c)
 
+-- some byte is heard, where there is one
+pub hear_some : (bytes : List ℕ) → 0 < length bytes → 0 < length (up_to_newline bytes)
+hear_some [] h = absurd (omega arith)
+hear_some (byte ∷ bytes) h = omega arith
+
+pub hear_most : (bytes : List ℕ) → length (up_to_newline bytes) ≤ length bytes
+hear_most bytes = rw (length-take (suc (length (before_newline bytes))) bytes) (omega arith)
+
+-- bytes that are heard from a place on, as the code takes them: some are used, and no more than there are
+pub hear_used :
+    (chunk : List ℕ) (at used : ℕ) → used ≡ length (up_to_newline (take (length chunk - at) (drop at chunk))) → at < length chunk →
+    (0 < used) × (at + used ≤ length chunk)
+hear_used chunk at used e h =
+    let as_fed = e ∙ ap (λ (l : List ℕ). length (up_to_newline l)) (rest at chunk) in
+    let size = length-drop at chunk in
+    let some = hear_some (drop at chunk) (omega arith) in
+    let most = hear_most (drop at chunk) in
+    (omega (arith, as_fed), omega (arith, as_fed))
+
 module _ (bytes room : List ℕ) (kept : ℕ) (d : Device) where
   abbrev before : List ℕ
   before = take (min kept 515) room
@@ -53,10 +73,11 @@ module _ (bytes room : List ℕ) (kept : ℕ) (d : Device) where
 
 -- the conversation as a call leaves it, and the other bytes, as the code takes them, are fed behind those that were heard
 module _
-    (bytes room room' image image' : List ℕ) (s : State) (kept : ℕ) (r : Heard) (g : GivesFed (feed (up_to_newline bytes) (under_way image s room kept)) r)
+    (bytes room room' image image' : List ℕ) (s : State) (kept : ℕ) (r : Heard) (out : ArrayVec ℕ)
+    (g : GivesFed (feed (up_to_newline bytes) (under_way image s room kept)) r out)
     (i : image' ≡ (feed (up_to_newline bytes) (under_way image s room kept)).after.device.image)
     (l : room' ≡ with_front (keeping_all (take (min kept 515) room) (before_newline bytes)) room) where
-  hear_after : under_way image' r.state room' r.kept ≡ (feed (up_to_newline bytes) (under_way image s room kept)).after
+  pub hear_after : under_way image' r.state room' r.kept ≡ (feed (up_to_newline bytes) (under_way image s room kept)).after
   hear_after =
       let front = kept-front bytes room kept (device image s) (ltb (length (before_newline bytes)) (length bytes)) refl in
       rw (l, g.kept, g.state, i, front)

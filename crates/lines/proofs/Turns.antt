@@ -1,17 +1,26 @@
--- The cases of `turn`, in its order; the rest of a line, as the code takes it; and that a frame and a read leave the image. Assumes nothing.
-use Prim.Native.Nat.{ℕ, ◌-◌}
+-- The cases of `turn`, in its order; that a line which opens with a letter and a blank has a rest; the rest of a line, as the code
+-- takes it; and that a frame and a read leave the image. Assumes nothing.
+use Prim.Native.Nat.{ℕ, ◌-◌, ◌≤◌}
 use mathlib.Core.Path.{◌≡◌, refl, sym}
 use mathlib.Core.Bool.{true, false}
-use mathlib.Core.List.{List}
+use mathlib.Core.List.{List, [], ◌∷◌}
+use native.Mathlib.Omega.{arith}
 use lib.ListN.{length, take, drop, length-drop}
 use lib.Seq.{take-length}
 use Rattle.std.specs.Prelude.{Option, Some, None}
 use Rattle.words.specs.Choice.{pick}
-use Rattle.words.proofs.Choice.{either}
+use Rattle.words.proofs.Choice.{never, both, either}
 use Rattle.hexadecimal.specs.Hex.{readable}
 use Rattle.device.specs.Work.{Device}
 use Rattle.text.specs.Numbers.{number_in}
 use Rattle.lines.specs.Turn.{Turn, unknown, powered, framed, worked, shown, read, opens, alone, turn}
+
+-- its second character is there
+pub opens_long : (letter : ℕ) (line : List ℕ) → opens letter line ≡ true → 2 ≤ length line
+unfolding opens
+opens_long letter [] e = absurd (never (both _ _ e).1)
+opens_long letter (x ∷ []) e = absurd (never (both _ _ e).1)
+opens_long letter (x ∷ y ∷ line) e = omega arith
 
 -- the rest of a list, as the code takes it
 pub rest : (n : ℕ) (l : List ℕ) → take (length l - n) (drop n l) ≡ drop n l

@@ -1,6 +1,7 @@
 -- Document 01, the program `rpmcrun`: it reads lines. Here a byte at a time: a newline has its line answered, and any other byte is
 -- kept. Then the lines of an input, which are answered in order. Assumes nothing.
 use Rattle.std.specs.Prelude.{ℕ, suc, min, ◌≡◌, List, [], ◌∷◌, ◌++◌, ltb, eqb, length, take}
+use Rattle.arrayvec.specs.ArrayVec.{ArrayVec}
 use Rattle.words.specs.Choice.{pick}
 use Rattle.state.specs.declared.State.{State}
 use Rattle.device.specs.Work.{Device}
@@ -96,12 +97,12 @@ unfoldable pub after_all : Device → List (List ℕ) → Device
 after_all d [] = d
 after_all d (line ∷ lines) = after_all (turn d line).after lines
 
--- a call gives what was fed, but for the image: the text, the state, and how many bytes are kept
-pub record GivesFed (f : Fed) (r : Heard) : Type 0 where
-  pub text : r.text.items ≡ f.text
+-- a call gives what was fed, but for the image: the text, in the line that it fills, the state, and how many bytes are kept
+pub record GivesFed (f : Fed) (r : Heard) (line : ArrayVec ℕ) : Type 0 where
+  pub prints : line.items ≡ f.text
   pub state : r.state ≡ f.after.device.state
   pub kept : r.kept ≡ length f.after.kept
 
 -- a call gives the end of the input, but for the image
-abbrev pub GivesEnd : Conversation → Turned → Type 0
-GivesEnd c r = Gives (ended c).text (ended c).after.device.state r
+abbrev pub GivesEnd : Conversation → Turned → ArrayVec ℕ → Type 0
+GivesEnd c r line = Gives (ended c).text (ended c).after.device.state r line

@@ -1,5 +1,6 @@
 -- Document 01, the program `rpmcrun`: what a line does, and what it prints. Assumes nothing.
 use Rattle.std.specs.Prelude.{ℕ, ◌≡◌, Bool, false, Option, Some, None, List, [], ◌∷◌, ltb, eqb, length, get_or, drop, replicate}
+use Rattle.arrayvec.specs.ArrayVec.{ArrayVec}
 use Rattle.words.specs.Choice.{pick}
 use Rattle.hexadecimal.specs.Hex.{readable}
 use Rattle.device.specs.Work.{Device}
@@ -72,11 +73,11 @@ turn d line =
     (pick (opens 82 line) (read d (number_in (drop 2 line)))
     (unknown d))))
 
--- a call gives a text and a state
-pub record Gives (line : List ℕ) (s : State) (r : Turned) : Type 0 where
-  pub text : r.text.items ≡ line
+-- a call gives a text, in the line that it fills, and a state
+pub record Gives (text : List ℕ) (s : State) (r : Turned) (line : ArrayVec ℕ) : Type 0 where
+  pub prints : line.items ≡ text
   pub state : r.state ≡ s
 
 -- a call gives a turn, but for the image
-abbrev pub GivesTurn : Turn → Turned → Type 0
-GivesTurn t r = Gives t.text t.after.state r
+abbrev pub GivesTurn : Turn → Turned → ArrayVec ℕ → Type 0
+GivesTurn t r line = Gives t.text t.after.state r line

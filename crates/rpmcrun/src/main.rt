@@ -16,6 +16,7 @@ use std::io;
 use std::io::{ErrorKind, Read, Write};
 use std::marker::Model;
 use std::rt::HostRuntime;
+use text::Line;
 
 // How far the conversation has come: the device's image and state, and the line under way, of which the first bytes are kept.
 //
@@ -48,31 +49,35 @@ impl Talk {
         }
     }
 
-    // Feeds the bytes that were read to the conversation, a line at a time, and writes each answer. Where each could be written, all
-    // bytes were fed.
+    // Feeds the bytes that were read to the conversation, a line at a time, and writes each answer, which fills the line `out`. Where
+    // each could be written, all bytes were fed. The state goes from line to line by value, and not by way of the struct, which would
+    // copy it once more.
     #[tactic(auto, unfolding(lines::specs::Feeding::feed), using(lines::proofs::Hearing::hear_on))]
-    fn hear(&mut self, rt: &HostRuntime, bytes: &[u8]) -> io::Result<()>
+    fn hear(&mut self, rt: &HostRuntime, bytes: &[u8], out: &mut Line) -> io::Result<()>
         ensures { OnOk result (self.new ≡ (feed bytes.now self.old).after) }
     {
         let mut rest = bytes;
+        let mut state = self.state;
         while !rest.is_empty() {
-            let heard = lines::hear(rest, &mut self.image, self.state, &mut self.line, self.kept);
-            self.state = heard.state;
+            let heard = lines::hear(rest, &mut self.image, state, &mut self.line, self.kept, out);
+            state = heard.state;
             self.kept = heard.kept;
             rest = &rest[heard.used..];
-            send(rt, &heard.text)?;
+            send(rt, out)?;
         }
+        self.state = state;
         Ok(())
     }
 
     // The end of the input: a last line without newline is answered too.
-    fn end(&mut self, rt: &HostRuntime) -> io::Result<()> {
-        let turned = lines::ended(&mut self.image, self.state, &self.line, self.kept);
-        send(rt, &turned.text)
+    fn end(&mut self, rt: &HostRuntime, out: &mut Line) -> io::Result<()> {
+        lines::ended(&mut self.image, self.state, &self.line, self.kept, out);
+        send(rt, out)
     }
 }
 
 // Writes a text in one write; where it is empty, in none.
+#[inline(always)]
 fn send(rt: &HostRuntime, text: &[u8]) -> io::Result<()> {
     rt.stdout().write_all(text)
 }
@@ -80,13 +85,15 @@ fn send(rt: &HostRuntime, text: &[u8]) -> io::Result<()> {
 // Answers the lines of standard input until it ends or cannot be read, or fails where an answer cannot be written.
 fn converse(rt: &HostRuntime) -> io::Result<()> {
     let mut talk = Talk::new();
-    send(rt, &lines::first_line(&talk.image))?;
+    let mut out = Line::new();
+    lines::first_line(&talk.image, &mut out);
+    send(rt, &out)?;
     let mut chunk = [0u8; 65536];
     // a proved loop has to end, and nothing says that the input does: so reads are counted, up to a number that no run uses up
     for _ in 0..u64::MAX {
         match rt.stdin().read(&mut chunk) {
-            Ok(0) => return talk.end(rt),
-            Ok(n) => talk.hear(rt, &chunk[..n])?,
+            Ok(0) => return talk.end(rt, &mut out),
+            Ok(n) => talk.hear(rt, &chunk[..n], &mut out)?,
             // a read that a signal has interrupted is made again
             Err(why) if why.kind() == ErrorKind::Interrupted => {}
             // after any other the input has not ended, so the line under way is no line

@@ -3,7 +3,7 @@
 use mathlib.Core.Path.{◌≡◌, ap, sym, ◌∙◌}
 use Prim.Native.Nat.{ℕ}
 use Rattle.arrayvec.specs.ArrayVec.{ArrayVec}
-use Rattle.words.proofs.Unique.{OneResult}
+use Rattle.words.proofs.Unique.{OneResult, OneLent}
 use Rattle.text.proofs.number_in.Reads as number-in-reads
 use Rattle.text.proofs.count_line.Reads as count-line-reads
 use Rattle.text.proofs.unknown_line.Reads as unknown-line-reads
@@ -12,23 +12,23 @@ use Rattle.text.proofs.work_line.Reads as work-line-reads
 use Rattle.text.proofs.read_line.Reads as read-line-reads
 
 -- lines of the same characters are the same
-same_line : (x y : ArrayVec ℕ) → x.items ≡ y.items → x ≡ y
+pub same_line : (x y : ArrayVec ℕ) → x.items ≡ y.items → x ≡ y
 same_line x y e = ap (λ items. record { items = items }) e
 
 number_in_one : OneResult number-in-reads.Post
 number_in_one κs a x y s t p q = p ∙ sym q
 
-count_line_one : OneResult count-line-reads.Post
-count_line_one κs a x y s t p q = same_line x y (p ∙ sym q)
+count_line_one : OneLent count-line-reads.Post (λ κs s. s.1.0.now)
+count_line_one κs a x y s t p q = same_line _ _ (p ∙ sym q)
 
-unknown_line_one : OneResult unknown-line-reads.Post
-unknown_line_one κs a x y s t p q = same_line x y (p ∙ sym q)
+unknown_line_one : OneLent unknown-line-reads.Post (λ κs s. s.0.now)
+unknown_line_one κs a x y s t p q = same_line _ _ (p ∙ sym q)
 
-number_line_one : OneResult number-line-reads.Post
-number_line_one κs a x y s t p q = same_line x y (p ∙ sym q)
+number_line_one : OneLent number-line-reads.Post (λ κs s. s.1.1.0.now)
+number_line_one κs a x y s t p q = same_line _ _ (p ∙ sym q)
 
-work_line_one : OneResult work-line-reads.Post
-work_line_one κs a x y s t p q = same_line x y (p ∙ sym q)
+work_line_one : OneLent work-line-reads.Post (λ κs s. s.1.1.0.now)
+work_line_one κs a x y s t p q = same_line _ _ (p ∙ sym q)
 
-read_line_one : OneResult read-line-reads.Post
-read_line_one κs a x y s t p q = same_line x y (p ∙ sym q)
+read_line_one : OneLent read-line-reads.Post (λ κs s. s.1.1.0.now)
+read_line_one κs a x y s t p q = same_line _ _ (p ∙ sym q)

@@ -1,6 +1,7 @@
 // The texts of rpmcrun's lines: the number that a line gives, and each line that is printed.
 //
-// Contracts cite specs/. Each function takes any input.
+// Contracts cite specs/. Each function takes any input. A line is lent, and filled anew whatever it holds: an answer by value has its
+// room copied at each call on the way, which took twice the instructions of a short line.
 
 #![tactic(auto)]
 
@@ -73,85 +74,82 @@ fn append(text: &[u8], line: &mut Line)
     line.try_extend_from_slice(text).unwrap();
 }
 
-// The line of a text that there is room for.
-fn line_of(text: &[u8]) -> Line
+// Fills a line with a text that there is room for.
+fn fill(text: &[u8], line: &mut Line)
     requires { length text.now ≤ 517 }
-    ensures { result.items ≡ text.now }
+    ensures { line.new.items ≡ text.now }
 {
-    let mut line = Line::new();
-    append(text, &mut line);
-    line
+    line.clear();
+    append(text, line);
 }
 
-// The line of a text with a number in decimal digits behind it.
+// Fills a line with a text and a number in decimal digits behind it.
 // kept: the digits are made here. `decimal` has the last two digits of a number above 99 too, where `itoa` prints all of them.
 #[tactic(auto, unfolding(crate::specs::Printing::decimal, words::specs::Choice::pick))]
-fn decimal_line(front: &[u8], n: u32) -> Line
+fn decimal_line(front: &[u8], n: u32, line: &mut Line)
     requires { length front.now + 3 ≤ 517 }
-    ensures { result.items ≡ front.now ++ decimal n ++ newline ∷ [] }
+    ensures { line.new.items ≡ front.now ++ decimal n ++ newline ∷ [] }
 {
-    let mut line = line_of(front);
+    fill(front, line);
     if 10 <= n {
         line.push(last_digit(n / 10));
     }
-    append(&[last_digit(n), b'\n'], &mut line);
-    line
+    append(&[last_digit(n), b'\n'], line);
 }
 
 // The first line, the count.
 #[tactic(auto, unfolding(crate::specs::Printing::count_line))]
-pub fn count_line(count: u32) -> Line
-    ensures { result.items ≡ count_line count }
+pub fn count_line(count: u32, line: &mut Line)
+    ensures { line.new.items ≡ count_line count }
 {
-    decimal_line(b"counters ", count)
+    decimal_line(b"counters ", count, line);
 }
 
 // `?`.
-pub fn unknown_line() -> Line
-    ensures { result.items ≡ unknown_line }
+pub fn unknown_line(line: &mut Line)
+    ensures { line.new.items ≡ unknown_line }
 {
-    line_of(b"?\n")
+    fill(b"?\n", line);
 }
 
 // A letter and the answer number.
 #[tactic(auto, unfolding(crate::specs::Printing::number_line))]
-pub fn number_line(letter: u8, number: u32) -> Line
-    ensures { result.items ≡ number_line letter number }
+pub fn number_line(letter: u8, number: u32, line: &mut Line)
+    ensures { line.new.items ≡ number_line letter number }
 {
-    line_of(&[letter, b' ', last_digit(number), b'\n'])
+    fill(&[letter, b' ', last_digit(number), b'\n'], line);
 }
 
 // The answer number and the steps of a work call.
 #[tactic(auto, unfolding(crate::specs::Printing::work_line))]
-pub fn work_line(number: u32, steps: u32) -> Line
-    ensures { result.items ≡ work_line number steps }
+pub fn work_line(number: u32, steps: u32, line: &mut Line)
+    ensures { line.new.items ≡ work_line number steps }
 {
     let front = [b'S', b' ', last_digit(number), b' '];
-    decimal_line(&front, steps)
+    decimal_line(&front, steps, line);
 }
 
-// Appends bytes in hexadecimal digits.
-#[tactic(auto, unfolding(words::specs::Table::spread))]
+// Appends bytes in hexadecimal digits, at most 256 that there is room for.
+#[tactic(auto, using(hexadecimal::proofs::InDigits::digits_front, hexadecimal::proofs::InDigits::digits_fit))]
 fn append_digits(bytes: &[u8], line: &mut Line)
-    requires { array_vec_len line.old + 2 * length bytes.now ≤ 517 }
+    requires { (length bytes.now ≤ 256) × (array_vec_len line.old + 2 * length bytes.now ≤ 517) }
     ensures items { line.new.items ≡ line.old.items ++ digits_of_all bytes.now }
     ensures len { array_vec_len line.new ≡ array_vec_len line.old + 2 * length bytes.now }
 {
-    for byte in bytes {
-        append(&hexadecimal::digits(*byte), line);
-    }
+    let mut digits = [0; 512];
+    hexadecimal::write(bytes, &mut digits);
+    append(&digits[..2 * bytes.len()], line);
 }
 
 // The answer number and the bytes of a read, or `?` where they are more than 256.
 #[tactic(auto, unfolding(crate::specs::Printing::fitting_read_line, crate::specs::Printing::read_line, words::specs::Choice::pick))]
-pub fn read_line(number: u32, bytes: &[u8]) -> Line
-    ensures { result.items ≡ fitting_read_line number bytes.now }
+pub fn read_line(number: u32, bytes: &[u8], line: &mut Line)
+    ensures { line.new.items ≡ fitting_read_line number bytes.now }
 {
     if 256 < bytes.len() {
-        return unknown_line();
+        return unknown_line(line);
     }
-    let mut line = line_of(&[b'R', b' ', last_digit(number), b' ']);
-    append_digits(bytes, &mut line);
-    line.push(b'\n');
-    line
+    fill(&[b'R', b' ', last_digit(number), b' '], line);
+    append_digits(bytes, line);
+    append(b"\n", line);
 }
