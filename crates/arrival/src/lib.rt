@@ -69,13 +69,13 @@ fn taken(s: State, status: u8, job: Job) -> State
     }
 }
 
-// The state after a frame is taken.
+// The state after a frame is taken. A failed check returns early, as a refused call of the device does.
 #[tactic(auto, unfolding(crate::specs::Arrival::arrived, words::specs::Choice::pick), using(checks::proofs::Failures::posts))]
 pub fn arrived(image: &[u8], s: State, frame: &[u8]) -> State
     ensures { result ≡ arrived image.now s frame.now }
 {
-    match status_on_arrival(image, s, frame) {
-        Err(failure) => taken(s, u8::from(failure), s.job),
-        Ok(()) => taken(s, 0x01, job_of(image, frame)),
+    if let Err(failure) = status_on_arrival(image, s, frame) {
+        return taken(s, u8::from(failure), s.job);
     }
+    taken(s, 0x01, job_of(image, frame))
 }

@@ -102,20 +102,20 @@ pub fn power_up(image: &[u8]) -> Answer
     no_step(image::accepted(image), state::power_on())
 }
 
-// One frame, with the buffer that a read fills. Refusals 1 to 4.
+// One frame, with the buffer that a read fills. Refusals 1 to 4. A refused call returns early: states that meet behind the arms of a
+// match are put together byte by byte.
 #[tactic(auto, unfolding(crate::specs::Calls::after_frame, crate::specs::Calls::output_after_frame, words::specs::Choice::pick), using(refusals::proofs::Numbers::numbered))]
 pub fn frame(image: &[u8], s: State, frame: &[u8], output: &mut [u8]) -> Answer
     ensures value { answer_of result ≡ after_frame image.now s frame.now }
     ensures output_after { output.new ≡ output_after_frame image.now s frame.now output.old }
 {
-    match state::accepted(image, s) {
-        Ok(()) => {
-            let class = frames::class_of(frame);
-            put_output(class, s, output);
-            no_step(DONE, state_after(class, image, s, frame))
-        }
-        refused => no_step(refused, s),
+    let accepted = state::accepted(image, s);
+    if accepted.is_err() {
+        return no_step(accepted, s);
     }
+    let class = frames::class_of(frame);
+    put_output(class, s, output);
+    no_step(DONE, state_after(class, image, s, frame))
 }
 
 // The answer of a work call that did its steps.

@@ -116,8 +116,10 @@ pub fn is_bad(slot: Slot) -> bool
     !is_state(slot.root_state) || !is_state(slot.counter_state) || unpaired
 }
 
-// The root key in use of a counter.
+// The root key in use of a counter. Never inlined: laid out in a caller, the compiler keeps the key's 32 bytes apart, and moves them
+// one by one wherever a state is handed on.
 #[tactic(auto, unfolding(crate::specs::Slot::root_key, crate::specs::Slot::slot_of, words::specs::Choice::pick))]
+#[inline(never)]
 pub fn root_key(image: &[u8], counter: u8) -> [u8; 32]
     ensures { result ≡ root_key image.now counter }
 {

@@ -28,7 +28,8 @@ pub fn unpack(s: &[u8]) -> State
     }
 }
 
-// The bytes of a state.
+// The bytes of a state. Always inlined, with `put`: so the compiler sees what of a state a call has changed.
+#[inline(always)]
 pub fn pack(s: State, out: &mut [u8; 383])
     ensures { out.new ≡ packed s }
 {

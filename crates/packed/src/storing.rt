@@ -5,8 +5,9 @@ ghost use Rattle.packed.specs.Stored.{Stored};
 
 use state::{Key, State};
 
-// Stores some bytes from a place on.
+// Stores some bytes from a place on. Always inlined, as `pack` is.
 #[tactic(auto, using(crate::proofs::Runs::stored_inside))]
+#[inline(always)]
 pub(crate) fn put<const N: usize>(bytes: &[u8; N], at: usize, out: &mut [u8; 383])
     requires { at + N ≤ 383 }
     ensures { Stored out.old at bytes.now N out.new }
