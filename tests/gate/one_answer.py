@@ -23,8 +23,9 @@ PUBLIC = re.compile(r'^pub (?:extern "C" )?fn (\w+)(.*?)^    (?:requires|ensures
 CONVERSION = re.compile(r"^impl (From|TryFrom)<(\w+)> for (\w+) \{", re.MULTILINE)
 ROW = re.compile(r"`(?:impl (From|TryFrom)<(\w+)> for (\w+)|(\w+))")
 READS = re.compile(r"^use .*\.proofs\.([\w.]+)\.Reads as ([\w-]+)$", re.MULTILINE)
-# of a function that is generic, a theorem is said of each type or number
-THEOREM = re.compile(r"^([\w-]+) :\s(?:\s*\(.* →\s+)?One(Result|Lent|Seen) \(?([\w-]+)\.Post\b", re.MULTILINE)
+# of a function that is generic, a theorem is said of each type or number: what it binds is handed on to the contract
+THEOREM = re.compile(r"^([\w-]+) :\s(?:\s*(\(.*\)) →\s+)?One(Result|Lent|Seen) \(?([\w-]+)\.Post\b((?: [\w-]+)*)", re.MULTILINE)
+BOUND = re.compile(r"\(([\w-]+) :")
 
 
 def theorems_in(cell):
@@ -45,6 +46,16 @@ def name_of(row):
     return function or conversion(trait, source, target)
 
 
+def theorems_of(proofs):
+    """The theorems, each with its kind and its contract. None has a premise: it binds what the contract is of, and no more."""
+    found = {}
+    for name, binders, kind, alias, handed in THEOREM.findall(proofs):
+        if BOUND.findall(binders) != handed.split():
+            raise Failed(f"{name} binds {binders}, and not what its contract is of")
+        found[name] = (kind, alias)
+    return found
+
+
 def check(code, section, proofs):
     """What a crate's code, its section of the page and its theorems say is the same."""
     rows = {name_of(row): theorems_in(cell) for row, cell in functions(section, COLUMN).items()}
@@ -53,7 +64,7 @@ def check(code, section, proofs):
     if rows.keys() != public.keys():
         raise Failed(f"a function without its row, or the other way: {', '.join(sorted(rows.keys() ^ public.keys()))}")
     read = {alias: function for function, alias in READS.findall(proofs)}
-    proved = {name: (kind, read.get(alias)) for name, kind, alias in THEOREM.findall(proofs)}
+    proved = {name: (kind, read.get(alias)) for name, (kind, alias) in theorems_of(proofs).items()}
     named = [theorem for theorems in rows.values() for theorem in theorems]
     if sorted(named) != sorted(proved):
         raise Failed(f"a theorem that the page lacks, or the other way: {', '.join(sorted(set(named) ^ set(proved)))}")
@@ -80,6 +91,8 @@ SPOILED = {
     "a function of a module": ("sha256", 0, r"^pub\(crate\) fn ch\(", "pub fn ch("),
     "a theorem that is not there": ("words", 2, r"^word_one :", "another_one :"),
     "a theorem of another function": ("words", 2, r"^word_one : OneResult word-reads", "word_one : OneResult bytes-reads"),
+    "a theorem with a premise": ("words", 2, r"^word_one : ", "word_one : (never : ⊥) → "),
+    "a theorem with a premise beside what it is of": ("words", 2, r"^part_one : ", "part_one : (never : ⊥) "),
     "a conversion without a row": ("refusals", 1, r"^\| `impl From<Refusal> for u32`.*\n", ""),
     "a generic function without a theorem": ("words", 2, r"^part_one :", "another_one :"),
     "a buffer without a theorem": ("words", 0, r"^pub fn word\(", "pub fn word(more: &mut u8, "),
