@@ -52,7 +52,7 @@ impl Talk {
     // Feeds the bytes that were read to the conversation, a line at a time, and writes each answer, which fills the line `out`. Where
     // each could be written, all bytes were fed. The state goes from line to line by value, and not by way of the struct, which would
     // copy it once more.
-    #[tactic(auto, unfolding(lines::specs::Feeding::feed), using(lines::proofs::Hearing::hear_on))]
+    #[tactic(auto, unfolding(lines::specs::Feeding::feed))]
     fn hear(&mut self, rt: &HostRuntime, bytes: &[u8], out: &mut Line) -> io::Result<()>
         ensures { OnOk result (self.new ≡ (feed bytes.now self.old).after) }
     {
@@ -76,7 +76,7 @@ impl Talk {
     }
 }
 
-// Writes a text in one write; where it is empty, in none.
+// Writes a text in one write; where it is empty, in none. Always inlined: most lines are a few characters.
 #[inline(always)]
 fn send(rt: &HostRuntime, text: &[u8]) -> io::Result<()> {
     rt.stdout().write_all(text)
