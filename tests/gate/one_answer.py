@@ -25,7 +25,7 @@ ROW = re.compile(r"`(?:impl (From|TryFrom)<(\w+)> for (\w+)|(\w+))")
 READS = re.compile(r"^use .*\.proofs\.([\w.]+)\.Reads as ([\w-]+)$", re.MULTILINE)
 # of a function that is generic, a theorem is said of each type or number: what it binds is handed on to the contract
 THEOREM = re.compile(r"^([\w-]+) :\s(?:\s*(\(.*\)) →\s+)?One(Result|Lent|Seen) \(?([\w-]+)\.Post\b((?: [\w-]+)*)", re.MULTILINE)
-BOUND = re.compile(r"\(([\w-]+) :")
+BINDER = re.compile(r"\(([\w-]+) : [^()]*\)\s*")
 
 
 def theorems_in(cell):
@@ -50,7 +50,7 @@ def theorems_of(proofs):
     """The theorems, each with its kind and its contract. None has a premise: it binds what the contract is of, and no more."""
     found = {}
     for name, binders, kind, alias, handed in THEOREM.findall(proofs):
-        if BOUND.findall(binders) != handed.split():
+        if BINDER.sub("", binders) or BINDER.findall(binders) != handed.split():
             raise Failed(f"{name} binds {binders}, and not what its contract is of")
         found[name] = (kind, alias)
     return found
@@ -92,6 +92,8 @@ SPOILED = {
     "a theorem that is not there": ("words", 2, r"^word_one :", "another_one :"),
     "a theorem of another function": ("words", 2, r"^word_one : OneResult word-reads", "word_one : OneResult bytes-reads"),
     "a theorem with a premise": ("words", 2, r"^word_one : ", "word_one : (never : ⊥) → "),
+    "a theorem with a premise that binds nothing": ("words", 2, r"^word_one : ", "word_one : (0 ≡ 1) → "),
+    "a theorem with two premises in one": ("words", 2, r"^word_one : ", "word_one : (x y : ⊥) → "),
     "a theorem with a premise beside what it is of": ("words", 2, r"^part_one : ", "part_one : (never : ⊥) "),
     "a conversion without a row": ("refusals", 1, r"^\| `impl From<Refusal> for u32`.*\n", ""),
     "a generic function without a theorem": ("words", 2, r"^part_one :", "another_one :"),
