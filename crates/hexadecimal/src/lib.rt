@@ -1,7 +1,7 @@
 // Bytes as hexadecimal digits, upper case, the high digit first, and back. Contracts cite specs/Hex.antt.
 //
-// kept: the ranges of the digits. `char::from_digit` gives lower case and `char::to_digit` takes it, as the kit's crate `hex` does;
-// here digits are in upper case alone.
+// kept: the ranges of the digits. `char::from_digit` gives lower case and `char::to_digit` takes it, as the kit's crate `hex` does where
+// it needs no heap; here digits are in upper case alone.
 
 #![tactic(auto)]
 

@@ -130,7 +130,7 @@ pub fn work_line(number: u32, steps: u32, line: &mut Line)
 }
 
 // Appends bytes in hexadecimal digits, at most 256 that there is room for.
-#[tactic(auto, using(hexadecimal::proofs::InDigits::digits_front, hexadecimal::proofs::InDigits::digits_fit))]
+#[tactic(auto, using(hexadecimal::proofs::Written::digits_front, hexadecimal::proofs::Written::digits_fit))]
 fn append_digits(bytes: &[u8], line: &mut Line)
     requires { (length bytes.now ≤ 256) × (array_vec_len line.old + 2 * length bytes.now ≤ 517) }
     ensures items { line.new.items ≡ line.old.items ++ digits_of_all bytes.now }
@@ -151,5 +151,5 @@ pub fn read_line(number: u32, bytes: &[u8], line: &mut Line)
     }
     fill(&[b'R', b' ', last_digit(number), b' '], line);
     append_digits(bytes, line);
-    append(b"\n", line);
+    line.push(b'\n');
 }

@@ -1,4 +1,5 @@
--- The digits of bytes: how many there are, and that they stand at the front of a buffer that has room for them. Assumes nothing.
+-- What is written of bytes: how many digits there are, and that they stand at the front of a buffer with room for them. Assumes
+-- nothing.
 use mathlib.Core.Path.{◌≡◌, refl}
 use mathlib.Core.List.{List}
 use Prim.Native.Nat.{ℕ, ◌*◌, ◌≤◌}
