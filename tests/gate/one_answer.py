@@ -3,7 +3,8 @@
 
 Each `pub fn`, and each conversion by From or TryFrom, has a row in the section of its crate. The last column of the row names its theorems, and
 those of the section are those of proofs/OneAnswer.antt. Each speaks of the contract of its function. One is
-of the result, if the function has one, and one of each buffer that it is lent to write.
+of the result, if the function has one, and one of each buffer that it is lent to write. A line that is lent is filled anew, so one more
+says that the contract does not look at what it held: it puts another line in its place, and leaves each other argument.
 
 That all this is seen is tried on crates that lack something."""
 
@@ -24,8 +25,12 @@ CONVERSION = re.compile(r"^impl (From|TryFrom)<(\w+)> for (\w+) \{", re.MULTILIN
 ROW = re.compile(r"`(?:impl (From|TryFrom)<(\w+)> for (\w+)|(\w+))")
 READS = re.compile(r"^use .*\.proofs\.([\w.]+)\.Reads as ([\w-]+)$", re.MULTILINE)
 # of a function that is generic, a theorem is said of each type or number: what it binds is handed on to the contract
-THEOREM = re.compile(r"^([\w-]+) :\s(?:\s*(\(.*\)) →\s+)?One(Result|Lent|Seen) \(?([\w-]+)\.Post\b((?: [\w-]+)*)", re.MULTILINE)
+THEOREM = re.compile(
+    r"^([\w-]+) :\s(?:\s*(\(.*\)) →\s+)?(One(?:Result|Lent|Seen)|Regardless) \(?([\w-]+)\.Post\b((?: [\w-]+)*)(.*)$",
+    re.MULTILINE)
 BINDER = re.compile(r"\(([\w-]+) : [^()]*\)\s*")
+PARAMETER = re.compile(r"(\w+): ([^,()]+)")
+LINE = "&mut Line"
 
 
 def theorems_in(cell):
@@ -47,13 +52,38 @@ def name_of(row):
 
 
 def theorems_of(proofs):
-    """The theorems, each with its kind and its contract. None has a premise: it binds what the contract is of, and no more."""
+    """The theorems, each with its kind, its contract, and what it says of that. None has a premise: it binds what the contract is of,
+    and no more."""
     found = {}
-    for name, binders, kind, alias, handed in THEOREM.findall(proofs):
+    for name, binders, kind, alias, handed, of in THEOREM.findall(proofs):
         if BINDER.sub("", binders) or BINDER.findall(binders) != handed.split():
             raise Failed(f"{name} binds {binders}, and not what its contract is of")
-        found[name] = (kind, alias)
+        found[name] = (kind, alias, of.strip())
     return found
+
+
+def another_line(signature):
+    """How another line is put in the place of the one that a function is lent: its arguments are pairs, one inside the other."""
+    parameters = PARAMETER.findall(signature.partition("->")[0])
+    at = [kind for _, kind in parameters].index(LINE)
+    line = parameters[at][0]
+    arguments = f"({line}, a{'.1' * (at + 1)})"
+    for before in reversed(range(at)):
+        arguments = f"(a{'.1' * before}.0, {arguments})"
+    return f"(λ κs a {line}. {arguments})"
+
+
+def check_function(function, signature, theorems):
+    """The theorems of a function, each a kind and what it says, speak of all that its signature hands out, and of the line that it is
+    lent."""
+    kinds = [kind for kind, _ in theorems]
+    anew = [says for kind, says in theorems if kind == "Regardless"]
+    lent = signature.count("&mut ")
+    if kinds.count("OneLent") != lent or len(kinds) - lent - len(anew) != signature.count("->"):
+        raise Failed(f"{function}: its result, and what it is lent to write, are not what its theorems speak of: {kinds}")
+    wanted = [another_line(signature)] if LINE in signature else []
+    if anew != wanted:
+        raise Failed(f"{function}: it is lent {wanted}, and its theorems put {anew}")
 
 
 def check(code, section, proofs):
@@ -64,15 +94,15 @@ def check(code, section, proofs):
     if rows.keys() != public.keys():
         raise Failed(f"a function without its row, or the other way: {', '.join(sorted(rows.keys() ^ public.keys()))}")
     read = {alias: function for function, alias in READS.findall(proofs)}
-    proved = {name: (kind, read.get(alias)) for name, (kind, alias) in theorems_of(proofs).items()}
+    proved = {name: (read.get(alias), kind, says) for name, (kind, alias, says) in theorems_of(proofs).items()}
     named = [theorem for theorems in rows.values() for theorem in theorems]
     if sorted(named) != sorted(proved):
         raise Failed(f"a theorem that the page lacks, or the other way: {', '.join(sorted(set(named) ^ set(proved)))}")
     for function, theorems in rows.items():
-        kinds = [kind for kind, of in map(proved.get, theorems) if of == function]
-        lent = public[function].count("&mut ")
-        if len(kinds) < len(theorems) or kinds.count("Lent") != lent or len(kinds) - lent != public[function].count("->"):
-            raise Failed(f"{function}: its result, and what it is lent to write, are not what {theorems} speak of")
+        others = [theorem for theorem in theorems if proved[theorem][0] != function]
+        if others:
+            raise Failed(f"{function}: of another function are {others}")
+        check_function(function, public[function], [proved[theorem][1:] for theorem in theorems])
     return f"{len(public)} functions, {len(named)} theorems"
 
 
@@ -98,6 +128,9 @@ SPOILED = {
     "a conversion without a row": ("refusals", 1, r"^\| `impl From<Refusal> for u32`.*\n", ""),
     "a generic function without a theorem": ("words", 2, r"^part_one :", "another_one :"),
     "a buffer without a theorem": ("words", 0, r"^pub fn word\(", "pub fn word(more: &mut u8, "),
+    "a line that may be looked at": ("lines", 2, r"^first_line_anew : Regardless", "first_line_anew : Whatever"),
+    "a line in the place of which none is put": ("text", 2, r"\(λ κs a line\. \(a\.0, \(line, a\.1\.1\)\)\)", "(λ κs a line. a)"),
+    "another image in the place of another line": ("lines", 2, r"\(λ κs a out\. \(a\.0, \(out, a\.1\.1\)\)\)", "(λ κs a image. (image, a.1))"),
     "a result without a theorem": ("host", 0, r"^(pub fn part<.*) -> .*$", r"\1"),
 }
 

@@ -1,8 +1,8 @@
--- One answer only, for each public function of this crate. Assumes nothing.
+-- One answer only, for each public function of this crate, and the same whatever the lent line `out` holds. Assumes nothing.
 use Prim.Native.Nat.{ℕ}
 use mathlib.Core.Path.{◌≡◌, sym, ap, ◌∙◌}
 use Rattle.text.proofs.OneAnswer.{same_line}
-use Rattle.words.proofs.Unique.{OneResult, OneLent}
+use Rattle.words.proofs.Unique.{OneResult, OneLent, Regardless}
 use Rattle.state.specs.declared.State.{State}
 use Rattle.lines.specs.declared.Turned.{Turned}
 use Rattle.lines.specs.declared.Heard.{Heard}
@@ -16,6 +16,9 @@ first_image_one κs a x y s t p q = p ∙ sym q
 
 first_line_one : OneLent first-line-reads.Post (λ κs s. s.1.0.now)
 first_line_one κs a x y s t p q = same_line _ _ (p ∙ sym q)
+
+first_line_anew : Regardless first-line-reads.Post (λ κs a out. (a.0, (out, a.1.1)))
+first_line_anew κs a x s out p = p
 
 -- a turn is its state
 same_turn : (x y : Turned) → x.state ≡ y.state → x ≡ y
@@ -40,6 +43,9 @@ hear_one_image κs a x y s t p q = p.1.1.0 ∙ sym q.1.1.0
 hear_one_line : OneLent hear-reads.Post (λ κs s. s.1.1.1.0.now)
 hear_one_line κs a x y s t p q = p.1.1.1 ∙ sym q.1.1.1
 
+hear_anew : Regardless hear-reads.Post (λ κs a out. (a.0, (a.1.0, (a.1.1.0, (a.1.1.1.0, (a.1.1.1.1.0, (out, a.1.1.1.1.1.1)))))))
+hear_anew κs a x s out p = p
+
 ended_one : OneResult ended-reads.Post
 ended_one κs a x y s t p q = same_turn x y (p.0.state ∙ sym q.0.state)
 
@@ -48,3 +54,6 @@ ended_one_output κs a x y s t p q = same_line _ _ (p.0.prints ∙ sym q.0.print
 
 ended_one_image : OneLent ended-reads.Post (λ κs s. s.0.now)
 ended_one_image κs a x y s t p q = p.1 ∙ sym q.1
+
+ended_anew : Regardless ended-reads.Post (λ κs a out. (a.0, (a.1.0, (a.1.1.0, (a.1.1.1.0, (out, a.1.1.1.1.1))))))
+ended_anew κs a x s out p = p

@@ -15,3 +15,19 @@ module _ {K : Type 0} {A R S : K → Type 0} (Post : (κs : K) → A κs → R �
   -- any two results show the same, where a result is a place in what is lent and not a value
   abbrev pub OneSeen : {L : Type 0} → ((κs : K) → R κs → L) → Type 0
   OneSeen seen = (κs : K) (a : A κs) (x y : R κs) (s t : S κs) → Post κs a x s → Post κs a y t → seen κs x ≡ seen κs y
+
+  -- what satisfies it is the same, whatever is lent in a place: it does not look there
+  abbrev pub Regardless : {L : Type 0} → ((κs : K) → A κs → L → A κs) → Type 0
+  Regardless {L = L} lending = (κs : K) (a : A κs) (x : R κs) (s : S κs) (l : L) → Post κs a x s → Post κs (lending κs a l) x s
+
+  -- then what one answer says of a call holds between all calls that are the same but for that place: their results are equal, and so
+  -- is what they leave
+  module _ {L : Type 0} (lending : (κs : K) → A κs → L → A κs) (regardless : Regardless lending) where
+    pub one_result_anew :
+        OneResult → (κs : K) (a : A κs) (l : L) (x y : R κs) (s t : S κs) → Post κs a x s → Post κs (lending κs a l) y t → x ≡ y
+    one_result_anew one κs a l x y s t p q = one κs (lending κs a l) x y s t (regardless κs a x s l p) q
+
+    pub one_lent_anew :
+        {M : Type 0} (lent : (κs : K) → S κs → M) → OneLent lent →
+        (κs : K) (a : A κs) (l : L) (x y : R κs) (s t : S κs) → Post κs a x s → Post κs (lending κs a l) y t → lent κs s ≡ lent κs t
+    one_lent_anew lent one κs a l x y s t p q = one κs (lending κs a l) x y s t (regardless κs a x s l p) q
