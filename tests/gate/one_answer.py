@@ -3,8 +3,8 @@
 
 Each `pub fn`, and each conversion by From or TryFrom, has a row in the section of its crate. The last column of the row names its theorems, and
 those of the section are those of proofs/OneAnswer.antt. Each speaks of the contract of its function. One is
-of the result, if the function has one, and one of each buffer that it is lent to write. A line that is lent is filled anew, so one more
-says that the contract does not look at what it held: it puts another line in its place, and leaves each other argument.
+of the result, if the function has one, and one of each buffer that it is lent to write. A line that is lent is filled anew, so of each
+one more says that the contract does not look at what it held: it puts another line in its place, and leaves each other argument.
 
 That all this is seen is tried on crates that lack something."""
 
@@ -26,11 +26,11 @@ ROW = re.compile(r"`(?:impl (From|TryFrom)<(\w+)> for (\w+)|(\w+))")
 READS = re.compile(r"^use .*\.proofs\.([\w.]+)\.Reads as ([\w-]+)$", re.MULTILINE)
 # of a function that is generic, a theorem is said of each type or number: what it binds is handed on to the contract
 THEOREM = re.compile(
-    r"^([\w-]+) :\s(?:\s*(\(.*\)) →\s+)?(One(?:Result|Lent|Seen)|Regardless) \(?([\w-]+)\.Post\b((?: [\w-]+)*)(.*)$",
+    r"^([\w-]+) :\s(?:\s*(\(.*\)) →\s+)?(One(?:Result|Lent|Seen)|Regardless) \(?([\w-]+)\.Post\b((?: [\w-]+)*)(.*(?:\n[ \t].*)*)$",
     re.MULTILINE)
 BINDER = re.compile(r"\(([\w-]+) : [^()]*\)\s*")
 PARAMETER = re.compile(r"(\w+): ([^,()]+)")
-LINE = "&mut Line"
+LINE = re.compile(r"&(?:'\w+ )?mut\s+(?:\w+::)*Line\s*")
 
 
 def theorems_in(cell):
@@ -53,37 +53,41 @@ def name_of(row):
 
 def theorems_of(proofs):
     """The theorems, each with its kind, its contract, and what it says of that. None has a premise: it binds what the contract is of,
-    and no more."""
+    and no more. Nor is any a premise of something else."""
     found = {}
     for name, binders, kind, alias, handed, of in THEOREM.findall(proofs):
         if BINDER.sub("", binders) or BINDER.findall(binders) != handed.split():
             raise Failed(f"{name} binds {binders}, and not what its contract is of")
-        found[name] = (kind, alias, of.strip())
+        says = " ".join(of.split())
+        if "→" in says:
+            raise Failed(f"{name} is a premise of something else: {says}")
+        found[name] = (kind, alias, says)
     return found
 
 
-def another_line(signature):
-    """How another line is put in the place of the one that a function is lent: its arguments are pairs, one inside the other."""
-    parameters = PARAMETER.findall(signature.partition("->")[0])
-    at = [kind for _, kind in parameters].index(LINE)
-    line = parameters[at][0]
-    arguments = f"({line}, a{'.1' * (at + 1)})"
-    for before in reversed(range(at)):
-        arguments = f"(a{'.1' * before}.0, {arguments})"
-    return f"(λ κs a {line}. {arguments})"
+def other_lines(signature):
+    """How another line is put in the place of each that a function is lent: its arguments are pairs, one inside the other."""
+    found = []
+    for at, (name, kind) in enumerate(PARAMETER.findall(signature.partition("->")[0])):
+        if LINE.fullmatch(kind):
+            arguments = f"({name}, a{'.1' * (at + 1)})"
+            for before in reversed(range(at)):
+                arguments = f"(a{'.1' * before}.0, {arguments})"
+            found.append(f"(λ κs a {name}. {arguments})")
+    return found
 
 
 def check_function(function, signature, theorems):
-    """The theorems of a function, each a kind and what it says, speak of all that its signature hands out, and of the line that it is
+    """The theorems of a function, each a kind and what it says, speak of all that its signature hands out, and of the lines that it is
     lent."""
     kinds = [kind for kind, _ in theorems]
     anew = [says for kind, says in theorems if kind == "Regardless"]
     lent = signature.count("&mut ")
     if kinds.count("OneLent") != lent or len(kinds) - lent - len(anew) != signature.count("->"):
         raise Failed(f"{function}: its result, and what it is lent to write, are not what its theorems speak of: {kinds}")
-    wanted = [another_line(signature)] if LINE in signature else []
-    if anew != wanted:
-        raise Failed(f"{function}: it is lent {wanted}, and its theorems put {anew}")
+    wanted = other_lines(signature)
+    if sorted(anew) != sorted(wanted):
+        raise Failed(f"{function}: of the lines that it is lent, {wanted} are to be put, and its theorems put {anew}")
 
 
 def check(code, section, proofs):
@@ -131,6 +135,9 @@ SPOILED = {
     "a line that may be looked at": ("lines", 2, r"^first_line_anew : Regardless", "first_line_anew : Whatever"),
     "a line in the place of which none is put": ("text", 2, r"\(λ κs a line\. \(a\.0, \(line, a\.1\.1\)\)\)", "(λ κs a line. a)"),
     "another image in the place of another line": ("lines", 2, r"\(λ κs a out\. \(a\.0, \(out, a\.1\.1\)\)\)", "(λ κs a image. (image, a.1))"),
+    "a second line, by its whole name": ("lines", 0, r"^    line: &mut \[u8; 515\],$", "    line: &mut text::Line,"),
+    "a theorem that is a premise": ("words", 2, r"^(word_one : .*)$", r"\1 → ⊤"),
+    "a theorem that is a premise, in the next line": ("lines", 2, r"^(ended_anew : .*)$", r"\1\n    → ⊤"),
     "a result without a theorem": ("host", 0, r"^(pub fn part<.*) -> .*$", r"\1"),
 }
 
