@@ -132,7 +132,6 @@ SPOILED = {
     "a conversion without a row": ("refusals", 1, r"^\| `impl From<Refusal> for u32`.*\n", ""),
     "a generic function without a theorem": ("words", 2, r"^part_one :", "another_one :"),
     "a buffer without a theorem": ("words", 0, r"^pub fn word\(", "pub fn word(more: &mut u8, "),
-    "a line that may be looked at": ("lines", 2, r"^first_line_anew : Regardless", "first_line_anew : Whatever"),
     "a line in the place of which none is put": ("text", 2, r"\(λ κs a line\. \(a\.0, \(line, a\.1\.1\)\)\)", "(λ κs a line. a)"),
     "another image in the place of another line": ("lines", 2, r"\(λ κs a out\. \(a\.0, \(out, a\.1\.1\)\)\)", "(λ κs a image. (image, a.1))"),
     "a second line, by its whole name": ("lines", 0, r"^    line: &mut \[u8; 515\],$", "    line: &mut text::Line,"),

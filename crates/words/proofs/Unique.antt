@@ -1,6 +1,7 @@
--- What it means that a contract has one answer only: any two outcomes that satisfy it are equal. It is said of the contract
--- itself, as the prover reads it from the source: `Post`, of the lifetimes, the arguments, the result and what is lent, as it
--- is at exit. Each crate proves it of each of its public functions, in its file OneAnswer. Assumes nothing.
+-- What it means that a contract has one answer only: any two outcomes that satisfy it are equal; and that it does not look at what is
+-- lent in a place, so that the one answer is that of all calls which differ there alone. It is said of the contract itself, as the prover
+-- reads it from the source: `Post`, of the lifetimes, the arguments, the result and what is lent, as it is at exit. Each crate proves it
+-- of each of its public functions, in its file OneAnswer. Assumes nothing.
 use mathlib.Core.Path.{◌≡◌}
 
 module _ {K : Type 0} {A R S : K → Type 0} (Post : (κs : K) → A κs → R κs → S κs → Type 0) where
